@@ -1,0 +1,5 @@
+pub mod EffectLemmas
+mod ItemLemmas
+pub mod MeaningLemmas
+mod TextLemmas
+mod WordLemmas

@@ -1,0 +1,5 @@
+pub mod Bytes
+pub mod First
+pub mod Front
+pub mod Kinds
+pub mod Line
