@@ -1,0 +1,10 @@
+pub mod Fits
+pub mod Form
+pub mod Grammar
+pub mod Kept
+pub mod Limits
+pub mod Numbers
+pub mod Parts
+pub mod Reading
+pub mod Scan
+pub mod Words
