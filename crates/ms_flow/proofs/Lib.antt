@@ -1,0 +1,9 @@
+pub mod Tables
+pub mod Steps
+pub mod Members
+pub mod Walks
+pub mod Paths
+pub mod Edges
+pub mod Orders
+pub mod Listed
+pub mod Same

@@ -1,0 +1,15 @@
+//! The flow graph of a function.
+#![tactic(auto)]
+
+mod flow;
+mod laws;
+mod order;
+mod search;
+mod sources;
+mod table;
+#[cfg(test)]
+mod tests;
+mod walker;
+
+pub use flow::{Edge, Flow};
+pub use laws::{order_told, same_paths, sources_told};

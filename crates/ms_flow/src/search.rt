@@ -1,0 +1,80 @@
+// What walks tell of the blocks.
+ghost use Rattle.std.specs.Prelude.{◌≡◌, ◌<◌, ◌↔◌, ℕ, List, ◌∷◌, IfOk, IsTrue, Option, Some, None, is_some, length, slice_index_or};
+ghost use Rattle.ms_paths.specs.Flow.{IsClosed, IsOnEveryPath, IsReached, IsWalk};
+ghost use Rattle.ms_flow.specs.Flow.{AreCycles, AreOrdered, IsOnCycle, walked};
+
+use crate::table::Table;
+use crate::walker::Walker;
+use ms_ir::NoMemory;
+use std::alloc::Global;
+
+/// The walk from block 0.
+pub fn first_walk(alloc: Global, table: &Table) -> Result<Walker, NoMemory>
+    requires { IsClosed table.now }
+    ensures walk { IfOk result (λ w. w ≡ walked table.now) }
+    ensures blocks { IfOk result (λ w. length w.seen ≡ length table.now) }
+{
+    let mut walker = Walker::new(alloc, table.len())?;
+    walker.visit(table, 0);
+    Ok(walker)
+}
+
+/// Whether every path to b passes h.
+pub fn cuts(table: &Table, walker: &mut Walker, h: u32, b: u32) -> bool
+    requires closed { IsClosed table.now }
+    requires blocks { length walker.old.seen ≡ length table.now }
+    requires h { h < length table.now }
+    requires b { b < length table.now }
+    ensures cuts { IsTrue result ↔ IsOnEveryPath table.now h b }
+    ensures blocks { length walker.new.seen ≡ length table.now }
+{
+    walker.visit_without(table, h);
+    h == b || !walker.has_seen(b)
+}
+
+// Whether a walk of at least one edge leads from a block back to it.
+fn comes_back(table: &Table, walker: &mut Walker, b: u32) -> bool
+    requires closed { IsClosed table.now }
+    requires blocks { length walker.old.seen ≡ length table.now }
+    requires b { b < length table.now }
+    ensures cycle { IsTrue result ↔ ((c : ℕ) × (w : List ℕ) × IsWalk table.now b b (c ∷ w)) }
+    ensures blocks { length walker.new.seen ≡ length table.now }
+{
+    walker.visit_beyond(table, b);
+    walker.has_seen(b)
+}
+
+// Whether a block is reached and on a cycle.
+fn is_on_cycle(table: &Table, walker: &mut Walker, order: &[Option<u32>], b: u32) -> bool
+    requires closed { IsClosed table.now }
+    requires blocks { length walker.old.seen ≡ length table.now }
+    requires ordered { AreOrdered table.now order.now }
+    requires b { b < length table.now }
+    ensures cycle { IsTrue result ↔ IsOnCycle table.now b }
+    ensures blocks { length walker.new.seen ≡ length table.now }
+{
+    if order[b as usize].is_none() {
+        return false;
+    }
+    comes_back(table, walker, b)
+}
+
+/// For each block whether it is on a cycle of reached blocks.
+pub fn cycles(
+    alloc: Global,
+    table: &Table,
+    walker: &mut Walker,
+    order: &[Option<u32>],
+) -> Result<Vec<bool>, NoMemory>
+    requires closed { IsClosed table.now }
+    requires blocks { length walker.old.seen ≡ length table.now }
+    requires ordered { AreOrdered table.now order.now }
+    ensures cycles { IfOk result (λ v. AreCycles table.now v.items) }
+    ensures blocks { length walker.new.seen ≡ length table.now }
+{
+    let mut cyclic = Vec::new(alloc);
+    for b in 0..table.len() {
+        cyclic.push(is_on_cycle(table, walker, order, b))?;
+    }
+    Ok(cyclic)
+}

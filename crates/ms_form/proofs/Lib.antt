@@ -1,0 +1,5 @@
+pub mod ListLemmas
+pub mod ChainLemmas
+pub mod PlaceLemmas
+pub mod FormLemmas
+pub mod UserLemmas

@@ -1,0 +1,5 @@
+pub mod Lists
+pub mod Chains
+pub mod Form
+pub mod Places
+pub mod Counts

@@ -1,0 +1,12 @@
+//! The memory form of a function, as one table with lists of users.
+#![tactic(auto)]
+
+mod access;
+mod chains;
+mod form;
+mod places;
+#[cfg(test)]
+mod tests;
+
+pub use access::{Access, User};
+pub use form::Form;
