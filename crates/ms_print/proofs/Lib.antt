@@ -1,0 +1,4 @@
+pub mod NoteLemmas
+pub mod NumberingLemmas
+pub mod TextLemmas
+pub mod WalkLemmas

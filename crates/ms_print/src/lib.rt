@@ -1,0 +1,15 @@
+//! The texts of functions and modules: each line in its one form, things without a name numbered afresh.
+#![tactic(auto)]
+
+mod lines;
+mod module;
+mod notes;
+mod numbering;
+#[cfg(test)]
+mod tests;
+mod text;
+mod walk;
+
+pub use module::print_module;
+pub use notes::{Note, NoteList, Notes};
+pub use text::print_func;
