@@ -2,9 +2,9 @@
 use Rattle.std.proofs.Common.{◌≡◌, ◌<◌, ◌≤◌, ℕ, List, ◌++◌, length, ◌⊎◌, inl, inr, Option, Some, None, IsSome, IfSome, refl, ap, sym, ◌∙◌, subst, arith}
 use Rattle.ms_io.specs.Faults.{Rose}
 use Rattle.ms_ir.specs.Func.{FuncState}
-use Rattle.ms_ir.specs.Text.{printed}
-use Rattle.ms_ir.specs.Nearest.{IsNearest}
-use Rattle.ms_read.specs.OneText.{IsOneText, IsRefusedAt, IsSameFunc}
+use Rattle.ms_first.specs.Text.{printed}
+use Rattle.ms_first.specs.Nearest.{IsNearest}
+use Rattle.ms_first.specs.OneText.{IsOneText, IsRefusedAt, IsSameFunc}
 use Rattle.ms_cli.specs.Words.{file_of}
 use Rattle.ms_cli.specs.Job.{limit, Job, BadWords, Refuses, Writes, form_text, IsOutput, IsWritten, IsTooLong, IsBadLine, IsJob, IsTold, status_of}
 use Rattle.ms_cli.specs.Run.{FilesSeen, SinkSeen, IsLoaded, HasRun}

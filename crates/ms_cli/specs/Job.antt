@@ -1,9 +1,9 @@
 -- What a run has to do: it is decided by the words, and by what the files hold.
 use Rattle.std.specs.Prelude.{◌≡◌, ◌<◌, ◌≤◌, ℕ, ◌⊎◌, List, ◌++◌, length, Option, Some, None, IfSome, IsSome, codes}
 use Rattle.ms_ir.specs.Func.{FuncState}
-use Rattle.ms_ir.specs.Text.{printed, new_line}
-use Rattle.ms_ir.specs.Nearest.{IsNearest}
-use Rattle.ms_read.specs.OneText.{IsOneText, IsRefusedAt}
+use Rattle.ms_first.specs.Text.{printed, new_line}
+use Rattle.ms_first.specs.Nearest.{IsNearest}
+use Rattle.ms_first.specs.OneText.{IsOneText, IsRefusedAt}
 use Rattle.ms_cli.specs.Words.{file_of}
 use Rattle.ms_cli.specs.declared.status.Status.{Status}
 use Rattle.ms_cli.specs.declared.status.Status.TheVariants.{Done, Refused, Usage}

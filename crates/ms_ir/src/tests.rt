@@ -1,4 +1,5 @@
-// What no clause says: that the calls succeed with ample memory, and that the clauses mean what they should.
+// What no clause says: that the calls succeed with ample memory. Longer runs stand in `ms_rows`. Functions and modules are
+// handed around by reference, so that no early exit drops one: that is dear to prove.
 ghost use Rattle.std.specs.Prelude.{◌≡◌, ◌<◌, ◌-◌, ◌^◌, length, slice_get, slice_index_or, IsTrue, Some, None};
 ghost use Rattle.ms_ir.specs.Func.{no_block};
 ghost use Rattle.ms_ir.specs.Changes.{IsCondBr, IsCopyThere};
@@ -13,10 +14,6 @@ fn text(alloc: Global, bytes: &str) -> Result<Text, NoMemory> {
     Items::from_bytes(alloc, bytes.as_bytes())
 }
 
-fn word(alloc: Global, bytes: &str) -> Result<Name, NoMemory> {
-    Ok(Name::Word(text(alloc, bytes)?))
-}
-
 // Puts an instruction at the end of a block.
 fn put(rt: &impl Abort, f: &mut Func, b: BlockNo, inst: Inst, name: Name) -> InstNo {
     assert!(rt; b.0 < f.block_count());
@@ -26,16 +23,9 @@ fn put(rt: &impl Abort, f: &mut Func, b: BlockNo, inst: Inst, name: Name) -> Ins
     f.put_inst(b, place, inst, name)
 }
 
-fn take(f: &mut Func, i: InstNo) -> Option<Inst> {
-    match f.place_of(i) {
-        Some(_) => Some(f.take_inst(i)),
-        None => None,
-    }
-}
-
-fn add(rt: &impl Abort, f: &mut Func, name: Name, term: Term) -> Result<BlockNo, NoMemory> {
+fn add(rt: &impl Abort, f: &mut Func, name: Name, term: Term) {
     assert!(rt; f.block_count() < 1000);
-    f.add_block(name, term)
+    assert!(rt; f.add_block(name, term).is_ok());
 }
 
 fn at(rt: &impl Abort, f: &Func, b: BlockNo, place: u32) -> Option<InstNo> {
@@ -51,117 +41,123 @@ fn load(alloc: Global, ptr: LocalNo) -> Inst {
     }
 }
 
-fn store(alloc: Global, val: Val, ptr: LocalNo) -> Inst {
-    Inst::Store {
-        ty: Ty::I32,
-        val,
-        ptr: Val::Local(ptr),
-        tail: Items::new(alloc),
-    }
-}
-
-// Whether an instruction stores this value.
-fn stores(inst: Option<&Inst>, wanted: Val) -> bool {
+// Whether an instruction loads from a local.
+fn loads(inst: Option<&Inst>, local: LocalNo) -> bool {
     match inst {
-        Some(Inst::Store { val, .. }) => *val == wanted,
+        Some(Inst::Load { ptr, .. }) => *ptr == Val::Local(local),
         _ => false,
     }
 }
 
-// How many entries a phi has.
-fn entries(inst: Option<&Inst>) -> usize {
-    match inst {
-        Some(Inst::Phi { entries, .. }) => entries.len(),
-        _ => 0,
-    }
-}
-
-// A function of a pointer parameter `%p` with one empty block, `entry`.
-fn one_block(alloc: Global) -> Result<Func, NoMemory> {
+// A function of a pointer parameter without a block.
+fn no_blocks(alloc: Global) -> Result<Func, NoMemory> {
+    let name = text(alloc, "f")?;
     let mut params = Items::new(alloc);
     params.push(Param {
         ty: Ty::Ptr,
         text: Items::new(alloc),
-        name: word(alloc, "p")?,
+        name: Name::Number(0),
     })?;
-    let name = text(alloc, "f")?;
-    let head = text(alloc, "dso_local")?;
-    let tail = text(alloc, "nounwind")?;
-    let mut f = Func::new(alloc, name, head, Some(Ty::I32), params, tail);
-    let term = Term::Ret(Some((Ty::I32, Val::Num(Ty::I32, 0))), Items::new(alloc));
-    f.add_block(word(alloc, "entry")?, term)?;
-    Ok(f)
+    let head = Items::new(alloc);
+    let tail = Items::new(alloc);
+    Ok(Func::new(alloc, name, head, Some(Ty::I32), params, tail))
 }
 
-// A function of `%a` and `%a` again, both loaded from `%p`, and a store of the second.
-fn two_loads(rt: &impl Abort, alloc: Global) -> Result<Func, NoMemory> {
-    let mut f = one_block(alloc)?;
-    let entry = BlockNo(0);
-    let p = LocalNo(0);
-    put(rt, &mut f, entry, load(alloc, p), word(alloc, "a")?);
-    put(rt, &mut f, entry, load(alloc, p), word(alloc, "a")?);
-    let stored = store(alloc, Val::Local(LocalNo(2)), p);
-    put(rt, &mut f, entry, stored, Name::Absent);
-    Ok(f)
+// A block of two loads from the parameter.
+fn fill(rt: &impl Abort, alloc: Global, f: &mut Func) {
+    let term = Term::Unreachable(Items::new(alloc));
+    add(rt, f, Name::Number(0), term);
+    put(rt, f, BlockNo(0), load(alloc, LocalNo(0)), Name::Number(1));
+    put(rt, f, BlockNo(0), load(alloc, LocalNo(0)), Name::Absent);
+}
+
+fn expect_parts(rt: &impl Abort, f: &Func) {
+    assert_eq!(rt; f.name().bytes(), b"f".as_slice());
+    assert_eq!(rt; f.head().len(), 0);
+    assert_eq!(rt; f.tail().len(), 0);
+    assert_eq!(rt; f.params().len(), 1);
+    assert!(rt; f.ret() == Some(Ty::I32));
+    assert_eq!(rt; f.made(), 2);
+    assert_eq!(rt; f.local_count(), 3);
+    assert!(rt; f.block_name(BlockNo(0)).is_some());
+    assert!(rt; f.find_block(&Name::Number(0)) == Some(BlockNo(0)));
+}
+
+fn expect_insts(rt: &impl Abort, f: &Func) {
+    f.numbered();
+    assert!(rt; f.first_inst(BlockNo(0)) == Some(InstNo(0)));
+    assert!(rt; f.next_inst(InstNo(0)) == Some(InstNo(1)));
+    assert!(rt; at(rt, f, BlockNo(0), 1) == Some(InstNo(1)));
+    assert!(rt; f.place_of(InstNo(1)) == Some((BlockNo(0), 1)));
+    assert!(rt; loads(f.inst(InstNo(1)), LocalNo(0)));
+    assert!(rt; f.node(InstNo(1)).is_some());
+    assert!(rt; f.block_count() == 1);
+    assert!(rt; f.node_at(BlockNo(0), 1).is_some());
+}
+
+fn expect_locals(rt: &impl Abort, f: &Func) {
+    assert!(rt; f.result_of(InstNo(1)) == Some(LocalNo(2)));
+    assert!(rt; f.def_of(LocalNo(2)) == Some(InstNo(1)));
+    assert!(rt; f.giver(LocalNo(2)).is_some());
+    assert!(rt; f.type_of(LocalNo(2)) == Some(Ty::I32));
+    assert!(rt; f.local_name(LocalNo(2)).is_some());
+    assert!(rt; f.find_local(&Name::Number(1)) == Some(LocalNo(1)));
 }
 
 #[test]
 fn looks_up(rt: HostRuntime) -> Result<(), Fail> {
     let alloc = rt.alloc();
-    let f = two_loads(&rt, alloc)?;
-    let p = LocalNo(0);
-    assert!(rt; f.first_inst(BlockNo(0)) == Some(InstNo(0)));
-    assert!(rt; f.next_inst(InstNo(0)) == Some(InstNo(1)));
-    assert!(rt; f.next_inst(InstNo(2)).is_none());
-    assert!(rt; f.def_of(LocalNo(2)) == Some(InstNo(1)));
-    assert!(rt; f.def_of(p).is_none());
-    assert!(rt; f.result_of(InstNo(1)) == Some(LocalNo(2)));
-    assert!(rt; f.type_of(p) == Some(Ty::Ptr));
-    assert!(rt; f.type_of(LocalNo(2)) == Some(Ty::I32));
-    assert!(rt; f.type_of(LocalNo(3)).is_none());
-    assert!(rt; f.place_of(InstNo(1)) == Some((BlockNo(0), 1)));
-    assert_eq!(rt; f.local_count(), 3);
-    assert_eq!(rt; f.tail().bytes(), b"nounwind".as_slice());
-    assert_eq!(rt; f.head().bytes(), b"dso_local".as_slice());
-    assert_eq!(rt; f.name().bytes(), b"f".as_slice());
-    assert_eq!(rt; f.params().len(), 1);
-    assert!(rt; f.ret() == Some(Ty::I32));
+    let mut f = no_blocks(alloc)?;
+    fill(&rt, alloc, &mut f);
+    expect_parts(&rt, &f);
+    expect_insts(&rt, &f);
+    expect_locals(&rt, &f);
     Ok(())
 }
 
-#[test]
-fn finds_names(rt: HostRuntime) -> Result<(), Fail> {
-    let alloc = rt.alloc();
-    let f = two_loads(&rt, alloc)?;
-    assert!(rt; f.find_local(&word(alloc, "a")?) == Some(LocalNo(1)));
-    assert!(rt; f.find_local(&word(alloc, "p")?) == Some(LocalNo(0)));
-    assert!(rt; f.find_local(&Name::Number(0)).is_none());
-    assert!(rt; f.find_local(&Name::Absent).is_none());
-    assert!(rt; f.find_block(&word(alloc, "entry")?) == Some(BlockNo(0)));
-    assert!(rt; f.find_block(&word(alloc, "a")?).is_none());
-    Ok(())
+// Puts an instruction first in a block.
+fn shift_first(rt: &impl Abort, f: &mut Func, i: InstNo, b: BlockNo) {
+    assert!(rt; b.0 < f.block_count());
+    assert!(rt; f.place_of(i).is_some());
+    f.shift_inst(i, b, 0);
 }
 
-#[test]
-fn changes_instructions(rt: HostRuntime) -> Result<(), Fail> {
-    let alloc = rt.alloc();
-    let mut f = two_loads(&rt, alloc)?;
-    f.replace_local(LocalNo(2), Val::Num(Ty::I32, 7));
-    assert!(rt; stores(f.inst(InstNo(2)), Val::Num(Ty::I32, 7)));
-    assert!(rt; take(&mut f, InstNo(0)).is_some());
-    assert!(rt; f.inst(InstNo(0)).is_none());
-    assert!(rt; f.find_local(&word(alloc, "a")?) == Some(LocalNo(2)));
-    assert!(rt; f.first_inst(BlockNo(0)) == Some(InstNo(1)));
-    let more = put(
-        &rt,
-        &mut f,
-        BlockNo(0),
-        load(alloc, LocalNo(0)),
-        Name::Absent,
-    );
-    assert!(rt; more == InstNo(3));
-    assert!(rt; f.result_of(more) == Some(LocalNo(3)));
-    Ok(())
+fn take(rt: &impl Abort, f: &mut Func, i: InstNo) {
+    assert!(rt; f.place_of(i).is_some());
+    f.take_inst(i);
+}
+
+// Whether an instruction is there, and is a copy.
+fn is_copy(f: &Func, i: InstNo) -> bool
+    ensures { IsTrue result → IsCopyThere f.now.blocks i.0 }
+{
+    match f.inst(i) {
+        Some(Inst::Copy { .. }) => true,
+        _ => false,
+    }
+}
+
+fn argument(alloc: Global, local: LocalNo) -> Arg {
+    Arg {
+        ty: Ty::Ptr,
+        val: Val::Local(local),
+        keeps: false,
+        text: Items::new(alloc),
+    }
+}
+
+// Puts a copy from a local to itself, which then copies from another.
+fn copy_from(rt: &impl Abort, alloc: Global, f: &mut Func, local: LocalNo, other: LocalNo) {
+    let copy = Inst::Copy {
+        to: argument(alloc, local),
+        from: argument(alloc, local),
+        len: 4,
+        head: Items::new(alloc),
+        tail: Items::new(alloc),
+    };
+    let i = put(rt, f, BlockNo(0), copy, Name::Absent);
+    assert!(rt; is_copy(f, i));
+    f.set_copy_source(i, argument(alloc, other));
 }
 
 // Whether a block ends in a conditional branch.
@@ -175,138 +171,35 @@ fn is_conditional(f: &Func, b: BlockNo, steps: &mut Steps) -> bool
     }
 }
 
-fn cut(rt: &impl Abort, f: &mut Func, b: BlockNo, slot: u32, steps: &mut Steps) {
-    assert!(rt; slot < 2);
-    assert!(rt; b.0 < f.block_count());
-    assert!(rt; is_conditional(f, b, steps));
-    f.cut_edge(b, slot);
-}
-
-// The target of a block's branch.
-fn target(rt: &impl Abort, f: &Func, b: BlockNo, steps: &mut Steps) -> Option<BlockNo> {
-    assert!(rt; b.0 < f.block_count());
-    match f.term(b, steps) {
-        Term::Br(b, _) => Some(*b),
-        _ => None,
-    }
-}
-
-// A phi with one entry for each of some blocks.
-fn phi(alloc: Global, froms: &[u32]) -> Result<Inst, NoMemory> {
-    let mut entries = Items::new(alloc);
-    for from in froms {
-        entries.push(Entry {
-            val: Val::Num(Ty::I32, *from as u64),
-            from: BlockNo(*from),
-        })?;
-    }
-    Ok(Inst::Phi {
-        ty: Ty::I32,
-        entries,
-        tail: Items::new(alloc),
-    })
-}
-
-// A function whose block 1 branches to two targets, and whose blocks 2 and 3 have a phi each.
-fn branching(rt: &impl Abort, alloc: Global, yes: u32, no: u32) -> Result<Func, NoMemory> {
-    let mut f = one_block(alloc)?;
-    let kept = text(alloc, ", !prof !0")?;
-    let term = Term::CondBr(Val::Num(Ty::I1, 1), BlockNo(yes), BlockNo(no), kept);
-    add(rt, &mut f, Name::Number(1), term)?;
-    let none = Term::Unreachable(Items::new(alloc));
-    add(rt, &mut f, Name::Number(2), none)?;
-    let none = Term::Unreachable(Items::new(alloc));
-    add(rt, &mut f, Name::Number(3), none)?;
-    put(rt, &mut f, BlockNo(2), phi(alloc, &[1, 1])?, Name::Absent);
-    put(rt, &mut f, BlockNo(3), phi(alloc, &[0, 1])?, Name::Absent);
-    Ok(f)
+// Adds a block that branches to itself or to the first block, and cuts its edge to the first one.
+fn cut_new_edge(rt: &impl Abort, alloc: Global, f: &mut Func, steps: &mut Steps) {
+    let term = Term::CondBr(
+        Val::Num(Ty::I1, 1),
+        BlockNo(1),
+        BlockNo(0),
+        Items::new(alloc),
+    );
+    add(rt, f, Name::Absent, term);
+    assert!(rt; f.block_count() == 2);
+    assert!(rt; is_conditional(f, BlockNo(1), steps));
+    f.cut_edge(BlockNo(1), 1);
+    assert!(rt; !is_conditional(f, BlockNo(1), steps));
 }
 
 #[test]
-fn cuts_an_edge(rt: HostRuntime) -> Result<(), Fail> {
+fn changes(rt: HostRuntime) -> Result<(), Fail> {
     let alloc = rt.alloc();
     let mut steps = Steps::new(alloc)?;
-    // each row: the targets, the slot that is cut, the target that stays, and how many entries the two phis keep
-    for (yes, no, slot, kept, first, second) in [
-        (2, 3, 0, 3, 1, 2),
-        (2, 3, 1, 2, 2, 1),
-        (2, 2, 0, 2, 1, 2),
-        (2, 2, 1, 2, 1, 2),
-        (2, 9, 1, 2, 2, 2),
-    ] {
-        let mut f = branching(&rt, alloc, yes, no)?;
-        cut(&rt, &mut f, BlockNo(1), slot, &mut steps);
-        assert!(rt; target(&rt, &f, BlockNo(1), &mut steps) == Some(BlockNo(kept)));
-        assert_eq!(rt;
-            (entries(f.inst(InstNo(0))), entries(f.inst(InstNo(1)))),
-            (first, second)
-        );
-    }
-    assert_eq!(rt; steps.count(), 15);
-    Ok(())
-}
-
-fn argument(alloc: Global, val: Val) -> Arg {
-    Arg {
-        ty: Ty::Ptr,
-        val,
-        keeps: false,
-        text: Items::new(alloc),
-    }
-}
-
-// Whether an instruction is there, and is a copy.
-fn is_copy(f: &Func, i: InstNo) -> bool
-    ensures { IsTrue result → IsCopyThere f.now.blocks i.0 }
-{
-    match f.inst(i) {
-        Some(Inst::Copy { .. }) => true,
-        _ => false,
-    }
-}
-
-fn set_source(rt: &impl Abort, f: &mut Func, i: InstNo, arg: Arg) {
-    assert!(rt; is_copy(f, i));
-    f.set_copy_source(i, arg);
-}
-
-// Whether an instruction copies from a local.
-fn copies_from(inst: Option<&Inst>, local: LocalNo) -> bool {
-    match inst {
-        Some(Inst::Copy { from, .. }) => from.val == Val::Local(local),
-        _ => false,
-    }
-}
-
-// Puts an instruction first in a block.
-fn shift_first(rt: &impl Abort, f: &mut Func, i: InstNo, b: BlockNo) {
-    assert!(rt; b.0 < f.block_count());
-    match f.place_of(i) {
-        Some(_) => f.shift_inst(i, b, 0),
-        None => {}
-    }
-}
-
-#[test]
-fn sets_a_source_and_moves(rt: HostRuntime) -> Result<(), Fail> {
-    let alloc = rt.alloc();
-    let mut f = one_block(alloc)?;
-    let entry = BlockNo(0);
-    let p = LocalNo(0);
-    let copy = Inst::Copy {
-        to: argument(alloc, Val::Local(p)),
-        from: argument(alloc, Val::Local(LocalNo(1))),
-        len: 4,
-        head: Items::new(alloc),
-        tail: Items::new(alloc),
-    };
-    let first = put(&rt, &mut f, entry, load(alloc, p), Name::Absent);
-    let second = put(&rt, &mut f, entry, copy, Name::Absent);
-    set_source(&rt, &mut f, second, argument(alloc, Val::Local(p)));
-    assert!(rt; copies_from(f.inst(second), p));
-    shift_first(&rt, &mut f, second, entry);
-    assert!(rt; at(&rt, &f, entry, 0) == Some(second));
-    assert!(rt; at(&rt, &f, entry, 1) == Some(first));
+    let mut f = no_blocks(alloc)?;
+    fill(&rt, alloc, &mut f);
+    shift_first(&rt, &mut f, InstNo(1), BlockNo(0));
+    take(&rt, &mut f, InstNo(0));
+    copy_from(&rt, alloc, &mut f, LocalNo(0), LocalNo(2));
+    f.replace_local(LocalNo(0), Val::Local(LocalNo(2)));
+    assert!(rt; loads(f.inst(InstNo(1)), LocalNo(2)));
+    cut_new_edge(&rt, alloc, &mut f, &mut steps);
+    steps.add(4);
+    assert_eq!(rt; steps.count(), 7);
     Ok(())
 }
 
@@ -352,63 +245,41 @@ fn is_small(m: &Module) -> bool
     }
 }
 
-fn add_defined(rt: &impl Abort, m: &mut Module, name: Text, sig: Sig) -> Result<FuncNo, NoMemory> {
+fn expect_new(rt: &impl Abort, m: &Module, name: &Text)
+    ensures new { IsNew m.now.names name.now }
+    ensures small { length m.now.items < 2 ^ 32 - 1 }
+{
     assert!(rt; is_small(m));
     assert!(rt; is_new(m, name.bytes()));
-    m.add_defined(name, sig)
 }
 
-fn add_declared(
-    rt: &impl Abort,
-    m: &mut Module,
-    name: Text,
-    sig: Sig,
-    line: Text,
-) -> Result<FuncNo, NoMemory> {
+// Adds a kept line, a global, a declared and a defined function.
+fn add_items(rt: &impl Abort, alloc: Global, m: &mut Module) -> Result<(), NoMemory> {
     assert!(rt; is_small(m));
-    assert!(rt; is_new(m, name.bytes()));
-    m.add_declared(name, sig, line)
-}
-
-fn add_global(
-    rt: &impl Abort,
-    m: &mut Module,
-    name: Text,
-    line: Text,
-) -> Result<GlobalNo, NoMemory> {
-    assert!(rt; is_small(m));
-    assert!(rt; is_new(m, name.bytes()));
-    m.add_global(name, line)
-}
-
-// A module of a kept line, `@g`, a declared `@use` and a defined `@f`.
-fn some_module(rt: &impl Abort, alloc: Global) -> Result<Module, NoMemory> {
-    let mut m = Module::new(alloc, Items::new(alloc));
     m.add_kept(text(alloc, "!0 = !{}")?)?;
-    let line = text(alloc, "@g = global i8 0")?;
-    add_global(rt, &mut m, text(alloc, "g")?, line)?;
-    let line = text(alloc, "declare void @use()")?;
-    add_declared(rt, &mut m, text(alloc, "use")?, signature(alloc), line)?;
-    add_defined(rt, &mut m, text(alloc, "f")?, signature(alloc))?;
-    Ok(m)
+    let name = text(alloc, "g")?;
+    expect_new(rt, m, &name);
+    m.add_global(name, Items::new(alloc))?;
+    let name = text(alloc, "use")?;
+    expect_new(rt, m, &name);
+    m.add_declared(name, signature(alloc), Items::new(alloc))?;
+    let name = text(alloc, "f")?;
+    expect_new(rt, m, &name);
+    m.add_defined(name, signature(alloc))?;
+    Ok(())
 }
 
-#[test]
-fn holds_a_module(rt: HostRuntime) -> Result<(), Fail> {
-    let alloc = rt.alloc();
-    let m = some_module(&rt, alloc)?;
+fn expect_items(rt: &impl Abort, m: &Module) {
     assert!(rt; m.names().find_func(b"f") == Some(FuncNo(1)));
-    assert!(rt; m.names().find_func(b"use") == Some(FuncNo(0)));
     assert!(rt; m.names().find_func(b"g").is_none());
     assert!(rt; m.names().find_global(b"g") == Some(GlobalNo(0)));
-    assert!(rt; m.names().func_name(FuncNo(1)) == Some(b"f".as_slice()));
-    assert!(rt; m.names().global_name(GlobalNo(1)).is_none());
+    assert!(rt; m.names().func_name(FuncNo(0)) == Some(b"use".as_slice()));
+    assert!(rt; m.names().global_name(GlobalNo(0)) == Some(b"g".as_slice()));
     assert_eq!(rt; m.groups().len(), 0);
     assert!(rt; m.item(3).is_some());
     assert!(rt; m.item(4).is_none());
     assert!(rt; m.sig(FuncNo(0)).is_some());
     assert!(rt; m.func(FuncNo(1)).is_none());
-    Ok(())
 }
 
 // Whether an item defines a function.
@@ -435,23 +306,38 @@ fn lacks_body(m: &Module, f: FuncNo) -> bool
     }
 }
 
-fn put_body(rt: &impl Abort, m: &mut Module, n: u32, f: FuncNo, func: Func) {
-    assert!(rt; defines(m, n, f));
+fn put_body(rt: &impl Abort, m: &mut Module, f: FuncNo, body: Func) {
+    assert!(rt; defines(m, 3, f));
     assert!(rt; lacks_body(m, f));
-    m.put_func(f, func);
+    m.put_func(f, body);
+}
+
+// Whether a function has a body that can be taken.
+fn takes_body(m: &mut Module, f: FuncNo) -> bool {
+    m.take_func(f).is_some()
 }
 
 #[test]
-fn takes_a_body_and_puts_it_back(rt: HostRuntime) -> Result<(), Fail> {
+fn holds_a_module(rt: HostRuntime) -> Result<(), Fail> {
     let alloc = rt.alloc();
-    let mut m = some_module(&rt, alloc)?;
-    let f = FuncNo(1);
-    put_body(&rt, &mut m, 3, f, one_block(alloc)?);
-    assert!(rt; m.func(f).is_some());
-    assert!(rt; m.take_func(f).is_some());
-    assert!(rt; m.take_func(f).is_none());
-    assert!(rt; m.take_func(FuncNo(0)).is_none());
-    assert!(rt; m.take_func(FuncNo(2)).is_none());
+    let body = no_blocks(alloc)?;
+    let mut m = Module::new(alloc, Items::new(alloc));
+    assert!(rt; add_items(&rt, alloc, &mut m).is_ok());
+    expect_items(&rt, &m);
+    put_body(&rt, &mut m, FuncNo(1), body);
+    for (f, taken) in [(1, true), (1, false), (0, false), (2, false)] {
+        assert!(rt; takes_body(&mut m, FuncNo(f)) == taken);
+    }
+    Ok(())
+}
+
+#[test]
+fn holds_lists_and_names(rt: HostRuntime) -> Result<(), Fail> {
+    let alloc = rt.alloc();
+    let list = Items::from_vec(text(alloc, "ab")?.into_vec());
+    assert!(rt; list.get(1) == Some(&b'b'));
+    assert_eq!(rt; list.as_slice(), b"ab".as_slice());
+    assert!(rt; same_name(&Name::Number(1), &Name::Number(1)));
     Ok(())
 }
 
