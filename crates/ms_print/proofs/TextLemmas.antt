@@ -11,8 +11,8 @@ use Rattle.ms_ir.specs.declared.module.Item.{Item}
 use Rattle.ms_ir.specs.Symbols.{NamesState}
 use Rattle.ms_ir.specs.Func.{Placed, Block, FuncState, placed_as, no_block}
 use Rattle.ms_ir.specs.Module.{ModuleState}
-use Rattle.ms_line.specs.Form.{printed}
-use Rattle.ms_line.specs.declared.line.Line.TheVariants.{Close}
+use Rattle.ms_grammar.specs.Form.{printed}
+use Rattle.ms_grammar.specs.declared.line.Line.TheVariants.{Close}
 use Rattle.ms_print.specs.declared.notes.Note.{Note}
 use Rattle.ms_print.specs.declared.notes.Notes.{Notes}
 use Rattle.ms_print.specs.declared.numbering.Tables.{Tables}

@@ -15,17 +15,17 @@ use Rattle.ms_ir.specs.declared.inst.Term.{Term}
 use Rattle.ms_ir.specs.declared.inst.Term.TheVariants.{Br, CondBr, Ret, Unreachable}
 use Rattle.ms_ir.specs.Symbols.{NamesState}
 use Rattle.ms_ir.specs.Func.{Placed, FuncState}
-use Rattle.ms_line.specs.declared.line.RawVal.{RawVal}
-use Rattle.ms_line.specs.declared.line.RawVal.TheVariants as val
-use Rattle.ms_line.specs.declared.line.RawArg.{RawArg}
-use Rattle.ms_line.specs.declared.line.RawEntry.{RawEntry}
-use Rattle.ms_line.specs.declared.line.RawInst.{RawInst}
-use Rattle.ms_line.specs.declared.line.RawInst.TheVariants as raw
-use Rattle.ms_line.specs.declared.line.RawTerm.{RawTerm}
-use Rattle.ms_line.specs.declared.line.RawTerm.TheVariants as end
-use Rattle.ms_line.specs.declared.line.Head.{Head}
-use Rattle.ms_line.specs.declared.line.Line.{Line}
-use Rattle.ms_line.specs.declared.line.Line.TheVariants as line
+use Rattle.ms_grammar.specs.declared.line.RawVal.{RawVal}
+use Rattle.ms_grammar.specs.declared.line.RawVal.TheVariants as val
+use Rattle.ms_grammar.specs.declared.line.RawArg.{RawArg}
+use Rattle.ms_grammar.specs.declared.line.RawEntry.{RawEntry}
+use Rattle.ms_grammar.specs.declared.line.RawInst.{RawInst}
+use Rattle.ms_grammar.specs.declared.line.RawInst.TheVariants as raw
+use Rattle.ms_grammar.specs.declared.line.RawTerm.{RawTerm}
+use Rattle.ms_grammar.specs.declared.line.RawTerm.TheVariants as end
+use Rattle.ms_grammar.specs.declared.line.Head.{Head}
+use Rattle.ms_grammar.specs.declared.line.Line.{Line}
+use Rattle.ms_grammar.specs.declared.line.Line.TheVariants as line
 use Rattle.ms_print.specs.declared.numbering.Tables.{Tables}
 use Rattle.ms_print.specs.Numbering.{shown_params, local_name, labels_of}
 

@@ -7,9 +7,9 @@ use Rattle.ms_ir.specs.declared.module.Item.TheVariants as item
 use Rattle.ms_ir.specs.Symbols.{NamesState}
 use Rattle.ms_ir.specs.Func.{Placed, Block, FuncState}
 use Rattle.ms_ir.specs.Module.{ModuleState, body_of}
-use Rattle.ms_line.specs.Form.{printed}
-use Rattle.ms_line.specs.declared.line.Line.{Line}
-use Rattle.ms_line.specs.declared.line.Line.TheVariants.{Close}
+use Rattle.ms_grammar.specs.Form.{printed}
+use Rattle.ms_grammar.specs.declared.line.Line.{Line}
+use Rattle.ms_grammar.specs.declared.line.Line.TheVariants.{Close}
 use Rattle.ms_print.specs.Lines.{Shown, shown_in, define_line, label_line, inst_line, term_line}
 use Rattle.ms_print.specs.declared.notes.Note.{Note}
 use Rattle.ms_print.specs.declared.notes.Notes.{Notes}

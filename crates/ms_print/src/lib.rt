@@ -1,6 +1,7 @@
 //! The texts of functions and modules: each line in its one form, things without a name numbered afresh.
 #![tactic(auto)]
 
+mod labels;
 mod lines;
 mod module;
 mod notes;
@@ -10,6 +11,7 @@ mod tests;
 mod text;
 mod walk;
 
+pub use labels::block_labels;
 pub use module::print_module;
 pub use notes::{Note, NoteList, Notes};
 pub use text::print_func;

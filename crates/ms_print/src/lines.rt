@@ -4,11 +4,11 @@ ghost use Rattle.ms_ir.specs.declared.names.Name.TheVariants.{Absent};
 ghost use Rattle.ms_print.specs.Lines.{shown_by, local_by, label_of, word_at, raw_val, raw_arg, raw_entry, raw_inst, raw_given, raw_term, result_name};
 
 use crate::numbering::{Tables, copy_name};
+use ms_grammar::{RawArg, RawArgs, RawEntries, RawEntry, RawInst, RawTerm, RawVal};
 use ms_ir::{
     Arg, BlockNo, Entry, FuncNo, GlobalNo, Inst, LocalNo, Name, Names, NoMemory, Term, Text, Ty,
     Val,
 };
-use ms_line::{RawArg, RawArgs, RawEntries, RawEntry, RawInst, RawTerm, RawVal};
 use std::alloc::Global;
 
 fn copy(alloc: Global, text: &Text) -> Result<Text, NoMemory>

@@ -1,7 +1,7 @@
 // The text of a function.
 ghost use Rattle.std.specs.Prelude.{◌≡◌, ◌<◌, ◌++◌, [], ℕ, length, drop, slice_index_or, OnOk, IfOk};
 ghost use Rattle.ms_ir.specs.Func.{insts_at, no_block, placed_as};
-ghost use Rattle.ms_line.specs.Form.{printed};
+ghost use Rattle.ms_grammar.specs.Form.{printed};
 ghost use Rattle.ms_print.specs.Lines.{shown_by, define_with, inst_line, term_line};
 ghost use Rattle.ms_print.specs.Notes.{note_by};
 ghost use Rattle.ms_print.specs.Text.{ended, note_at, insts_text, label_text, block_text, blocks_text, func_text};
@@ -10,8 +10,8 @@ use crate::lines::{label, raw_inst, raw_term, result_name};
 use crate::notes::{Note, Notes, note_table};
 use crate::numbering::{Tables, shown_params, tables_of};
 use crate::walk::{first_of, step};
+use ms_grammar::{Head, Line, write_line};
 use ms_ir::{BlockNo, Func, InstNo, Name, Names, NoMemory, Node, Params, Steps, Term, Text};
-use ms_line::{Head, Line, write_line};
 use std::alloc::Global;
 
 // What is looked up while a function is printed: names, and the places of the notes.

@@ -1,5 +1,0 @@
-use Rattle.ms_line.proofs.OneLine as lines
-use Rattle.ms_line.proofs.laws.one_line.Goals as goal
-
-pub returns : goal.returns
-returns c = lines.one_line

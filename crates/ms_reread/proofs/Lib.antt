@@ -1,0 +1,11 @@
+pub mod Classes
+pub mod Ends
+pub mod Heads
+pub mod Joined
+pub mod Lines
+pub mod Moves
+pub mod Pieces
+pub mod Places
+pub mod Reread
+pub mod Tokens
+pub mod Values
