@@ -1,0 +1,9 @@
+pub mod ArgLemmas
+pub mod CallLemmas
+pub mod CutLemmas
+pub mod Entries
+pub mod FlagLemmas
+pub mod Fronts
+pub mod JoinLemmas
+pub mod Lists
+pub mod Spelt

@@ -1,0 +1,9 @@
+pub mod Cells
+pub mod HeadLemmas
+pub mod InstLines
+pub mod NumberLemmas
+pub mod ParamLemmas
+pub mod SaidLemmas
+pub mod ShapeLemmas
+pub mod ShortLemmas
+pub mod Wholes

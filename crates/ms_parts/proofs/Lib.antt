@@ -1,0 +1,16 @@
+pub mod CallFronts
+pub mod Cut
+pub mod Globals
+pub mod Indexing
+pub mod KeptLines
+pub mod Longest
+pub mod Marks
+pub mod Numerals
+pub mod Offsets
+pub mod OneKind
+pub mod Single
+pub mod Sizing
+pub mod Tailing
+pub mod Texts
+pub mod Totals
+pub mod Values

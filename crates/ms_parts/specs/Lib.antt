@@ -1,0 +1,4 @@
+pub mod Reach
+pub mod Rests
+pub mod Sizes
+pub mod Sums
