@@ -25,12 +25,12 @@ abbrev pub entry_named : ℕ → List (Option ℕ) → Option ℕ → Option Acc
 entry_named blocks homes None = None
 entry_named blocks homes (Some n) = option_map (access_at blocks) (get_or homes n None)
 
-pub entry-view : (phis : List Bool) (lasts : List (Option InstNo)) (rooms : List Room) (base : ℕ) (users : List User) (homes : List (Option ℕ)) (lists : List (List ℕ)) (uses : List (List User)) (spare insts : ℕ) (u : User) (place : Option ℕ)
+pub entry-view : (phis : List Bool) (lasts : List (Option InstNo)) (rooms : List Room) (base : ℕ) (users : List User) (homes : List (Option ℕ)) (lists : List (List ℕ)) (uses : List (List User)) (spare : ℕ) (waiting : List ℕ) (insts : ℕ) (u : User) (place : Option ℕ)
     → IsForm phis lasts rooms base users homes lists → insts ≡ length users - base → place ≡ user_place rooms base insts u
-    → entry_of (form_of phis lasts rooms base (entries_of (length rooms) homes) uses spare) u ≡ entry_named (length rooms) homes place
-entry-view phis lasts rooms base users homes lists uses spare insts u place f e is =
+    → entry_of (form_of phis lasts rooms base (entries_of (length rooms) homes) uses spare waiting) u ≡ entry_named (length rooms) homes place
+entry-view phis lasts rooms base users homes lists uses spare waiting insts u place f e is =
     let len : length (entries_of (length rooms) homes) ≡ base + insts = simp length-map (omega (arith, f.homes_len, f.placed.base_in)) in
-    entry_of-form phis lasts rooms base (entries_of (length rooms) homes) uses spare insts u len ∙ ap (entry_in (entries_of (length rooms) homes)) (sym is) ∙ by_place place
+    entry_of-form phis lasts rooms base (entries_of (length rooms) homes) uses spare waiting insts u len ∙ ap (entry_in (entries_of (length rooms) homes)) (sym is) ∙ by_place place
   where
     by_place : (place : Option ℕ) → entry_in (entries_of (length rooms) homes) place ≡ entry_named (length rooms) homes place
     by_place None = refl
@@ -89,14 +89,14 @@ block_of (Operand b slot) = b.0
 block_of (Inst i) = 0
 
 -- One place of the entries is set: the table changes at its user alone.
-pub form_of-entry : (phis : List Bool) (lasts : List (Option InstNo)) (rooms : List Room) (base : ℕ) (users : List User) (entries : List (Option Access)) (uses : List (List User)) (spare : ℕ) (u : User) (place : ℕ) (x : Option Access)
+pub form_of-entry : (phis : List Bool) (lasts : List (Option InstNo)) (rooms : List Room) (base : ℕ) (users : List User) (entries : List (Option Access)) (uses : List (List User)) (spare : ℕ) (waiting : List ℕ) (u : User) (place : ℕ) (x : Option Access)
     → IsPlaced rooms base users → length entries ≡ length users → user_place rooms base (length users - base) u ≡ Some place
-    → form_of phis lasts rooms base (set entries place x) uses spare ≡ entry_set u x (form_of phis lasts rooms base entries uses spare)
-form_of-entry phis lasts rooms base users entries uses spare (Inst i) place x p len e =
+    → form_of phis lasts rooms base (set entries place x) uses spare waiting ≡ entry_set u x (form_of phis lasts rooms base entries uses spare waiting)
+form_of-entry phis lasts rooms base users entries uses spare waiting (Inst i) place x p len e =
     let from = inst_from rooms base (length users - base) i place e in
     let is : base + i.0 ≡ place = from.1 in
     rw (enters-same entries rooms place x (λ b lt w. absurd (omega (arith, p.within b lt))), operands-same entries rooms place x (λ b slot lt lt' w. absurd (omega (arith, p.within b lt))), ← is, drop-set-add base entries i.0 x) refl
-form_of-entry phis lasts rooms base users entries uses spare (Entering b) place x p len e =
+form_of-entry phis lasts rooms base users entries uses spare waiting (Entering b) place x p len e =
     let from = entering_from rooms b.0 place e in
     let in' : place < length entries = omega (arith, (p.at (Entering b) place e).0) in
     let low : place < base = omega (arith, p.within b.0 from.0, from.1) in
@@ -107,7 +107,7 @@ form_of-entry phis lasts rooms base users entries uses spare (Entering b) place 
     let same : Operand (record { 0 = k }) slot ≡ Entering b = same_place rooms base users (Operand (record { 0 = k }) slot) (Entering b) place p (operand_place rooms k slot lt lt' ∙ ap Some w) e in
     cc in
     rw (enters-set entries rooms b.0 place x from.0 from.1 in' other, operands-same entries rooms place x apart, drop-set-lt base entries place x low) refl
-form_of-entry phis lasts rooms base users entries uses spare (Operand b slot) place x p len e =
+form_of-entry phis lasts rooms base users entries uses spare waiting (Operand b slot) place x p len e =
     let from = operand_from rooms b.0 slot place e in
     let low : place < base = omega (arith, p.within b.0 from.0, from.1, from.2) in
     let other : (k t : ℕ) → k < length rooms → t < (get_or rooms k no_room).slots → k ≢ b.0 → (get_or rooms k no_room).first + 1 + t ≢ place = λ k t lt lt' ne w.
@@ -124,20 +124,20 @@ get_or-without u (us ∷ uses) zero = refl
 get_or-without u (us ∷ uses) (suc n) = get_or-without u uses n
 
 -- A user is out of all lists.
-pub form_of-without : (phis : List Bool) (lasts : List (Option InstNo)) (rooms : List Room) (base : ℕ) (entries : List (Option Access)) (uses : List (List User)) (spare : ℕ) (u : User)
-    → form_of phis lasts rooms base entries (map (without_user u) uses) spare ≡ taken_out u (form_of phis lasts rooms base entries uses spare)
-form_of-without phis lasts rooms base entries uses spare u =
+pub form_of-without : (phis : List Bool) (lasts : List (Option InstNo)) (rooms : List Room) (base : ℕ) (entries : List (Option Access)) (uses : List (List User)) (spare : ℕ) (waiting : List ℕ) (u : User)
+    → form_of phis lasts rooms base entries (map (without_user u) uses) spare waiting ≡ taken_out u (form_of phis lasts rooms base entries uses spare waiting)
+form_of-without phis lasts rooms base entries uses spare waiting u =
     rw (get_or-without u uses (length rooms), take-map (without_user u) (length rooms) uses, drop-map (without_user u) (length rooms + 1) uses) refl
 
 -- A user is at the front of a list.
-pub form_of-front : (phis : List Bool) (lasts : List (Option InstNo)) (rooms : List Room) (base insts : ℕ) (entries : List (Option Access)) (uses : List (List User)) (spare : ℕ) (u : User) (a : Access) (list : ℕ)
+pub form_of-front : (phis : List Bool) (lasts : List (Option InstNo)) (rooms : List Room) (base insts : ℕ) (entries : List (Option Access)) (uses : List (List User)) (spare : ℕ) (waiting : List ℕ) (u : User) (a : Access) (list : ℕ)
     → length uses ≡ length rooms + 1 + insts → access_place (length rooms) insts a ≡ Some list
-    → form_of phis lasts rooms base entries (set uses list (u ∷ get_or uses list [])) spare ≡ put_in u a (form_of phis lasts rooms base entries uses spare)
-form_of-front phis lasts rooms base insts entries uses spare u Entry list len e =
+    → form_of phis lasts rooms base entries (set uses list (u ∷ get_or uses list [])) spare waiting ≡ put_in u a (form_of phis lasts rooms base entries uses spare waiting)
+form_of-front phis lasts rooms base insts entries uses spare waiting u Entry list len e =
     let is : length rooms ≡ list = cc in
     let v : List User = u ∷ get_or uses (length rooms) [] in
     rw (← is, get_or-set_same uses (length rooms) v [] (omega arith), take-set-le (length rooms) uses (length rooms) v (omega arith), drop-set-lt (length rooms + 1) uses (length rooms) v (omega arith)) refl
-form_of-front phis lasts rooms base insts entries uses spare u (Phi b) list len e = elim (leb_tells (suc b.0) (length rooms)) [
+form_of-front phis lasts rooms base insts entries uses spare waiting u (Phi b) list len e = elim (leb_tells (suc b.0) (length rooms)) [
   | inl fits ↦
       let some : Some b.0 ≡ Some list = rw fits.0 at e in
       let is : b.0 ≡ list = cc in
@@ -148,7 +148,7 @@ form_of-front phis lasts rooms base insts entries uses spare u (Phi b) list len 
       let none : None ≡ Some list = rw past.0 at e in
       cc
 ]
-form_of-front phis lasts rooms base insts entries uses spare u (Of i) list len e = elim (leb_tells (suc i.0) insts) [
+form_of-front phis lasts rooms base insts entries uses spare waiting u (Of i) list len e = elim (leb_tells (suc i.0) insts) [
   | inl fits ↦
       let some : Some (length rooms + 1 + i.0) ≡ Some list = rw fits.0 at e in
       let is : length rooms + 1 + i.0 ≡ list = cc in
@@ -174,10 +174,10 @@ operands-push entries (r ∷ rooms) x within =
     ) refl
 
 -- There is an empty place for one more instruction.
-pub form_of-grown : (phis : List Bool) (lasts : List (Option InstNo)) (rooms : List Room) (base insts : ℕ) (entries : List (Option Access)) (uses : List (List User)) (spare : ℕ)
+pub form_of-grown : (phis : List Bool) (lasts : List (Option InstNo)) (rooms : List Room) (base insts : ℕ) (entries : List (Option Access)) (uses : List (List User)) (spare : ℕ) (waiting : List ℕ)
     → AreWithin rooms base → length entries ≡ base + insts → length uses ≡ length rooms + 1 + insts
-    → form_of phis lasts rooms base (entries ++ None ∷ []) (uses ++ [] ∷ []) (spare - 1) ≡ grown (form_of phis lasts rooms base entries uses spare)
-form_of-grown phis lasts rooms base insts entries uses spare within len uses_len =
+    → form_of phis lasts rooms base (entries ++ None ∷ []) (uses ++ [] ∷ []) (spare - 1) waiting ≡ grown (form_of phis lasts rooms base entries uses spare waiting)
+form_of-grown phis lasts rooms base insts entries uses spare waiting within len uses_len =
     rw (
       enters-push entries rooms,
       operands-push entries rooms None (λ b lt. omega (arith, within b lt)),

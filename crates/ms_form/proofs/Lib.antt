@@ -3,3 +3,4 @@ pub mod ChainLemmas
 pub mod PlaceLemmas
 pub mod FormLemmas
 pub mod UserLemmas
+pub mod WaitingLemmas

@@ -96,23 +96,23 @@ entry_of-operand entries (r ∷ rooms) zero slot = elim (leb_tells (suc slot) r.
 ]
 entry_of-operand entries (r ∷ rooms) (suc b) slot = entry_of-operand entries rooms b slot
 
-pub entry_of-form : (phis : List Bool) (lasts : List (Option InstNo)) (rooms : List Room) (base : ℕ) (entries : List (Option Access)) (uses : List (List User)) (spare insts : ℕ) (u : User) → length entries ≡ base + insts
-    → entry_of (form_of phis lasts rooms base entries uses spare) u ≡ entry_in entries (user_place rooms base insts u)
-entry_of-form phis lasts rooms base entries uses spare insts (Inst i) len = elim (leb_tells (suc i.0) insts) [
+pub entry_of-form : (phis : List Bool) (lasts : List (Option InstNo)) (rooms : List Room) (base : ℕ) (entries : List (Option Access)) (uses : List (List User)) (spare : ℕ) (waiting : List ℕ) (insts : ℕ) (u : User) → length entries ≡ base + insts
+    → entry_of (form_of phis lasts rooms base entries uses spare waiting) u ≡ entry_in entries (user_place rooms base insts u)
+entry_of-form phis lasts rooms base entries uses spare waiting insts (Inst i) len = elim (leb_tells (suc i.0) insts) [
   | inl fits ↦ rw fits.0 (get_or-drop base entries i.0 None)
   | inr past ↦ rw past.0 (get_or-drop base entries i.0 None ∙ get_or_past entries (base + i.0) None (omega (arith, past.1)))
 ]
-entry_of-form phis lasts rooms base entries uses spare insts (Operand b slot) len = entry_of-operand entries rooms b.0 slot
-entry_of-form phis lasts rooms base entries uses spare insts (Entering b) len = entry_of-entering entries rooms b.0
+entry_of-form phis lasts rooms base entries uses spare waiting insts (Operand b slot) len = entry_of-operand entries rooms b.0 slot
+entry_of-form phis lasts rooms base entries uses spare waiting insts (Entering b) len = entry_of-entering entries rooms b.0
 
-pub users_of-form : (phis : List Bool) (lasts : List (Option InstNo)) (rooms : List Room) (base : ℕ) (entries : List (Option Access)) (uses : List (List User)) (spare insts : ℕ) (a : Access) → length uses ≡ length rooms + 1 + insts
-    → users_of (form_of phis lasts rooms base entries uses spare) a ≡ list_in uses (access_place (length rooms) insts a)
-users_of-form phis lasts rooms base entries uses spare insts Entry len = refl
-users_of-form phis lasts rooms base entries uses spare insts (Phi b) len = elim (leb_tells (suc b.0) (length rooms)) [
+pub users_of-form : (phis : List Bool) (lasts : List (Option InstNo)) (rooms : List Room) (base : ℕ) (entries : List (Option Access)) (uses : List (List User)) (spare : ℕ) (waiting : List ℕ) (insts : ℕ) (a : Access) → length uses ≡ length rooms + 1 + insts
+    → users_of (form_of phis lasts rooms base entries uses spare waiting) a ≡ list_in uses (access_place (length rooms) insts a)
+users_of-form phis lasts rooms base entries uses spare waiting insts Entry len = refl
+users_of-form phis lasts rooms base entries uses spare waiting insts (Phi b) len = elim (leb_tells (suc b.0) (length rooms)) [
   | inl fits ↦ rw fits.0 (get_or-take (length rooms) uses b.0 [] fits.1)
   | inr past ↦ rw past.0 (get_or_past (take (length rooms) uses) b.0 [] (omega (arith, past.1, length-take (length rooms) uses)))
 ]
-users_of-form phis lasts rooms base entries uses spare insts (Of i) len = elim (leb_tells (suc i.0) insts) [
+users_of-form phis lasts rooms base entries uses spare waiting insts (Of i) len = elim (leb_tells (suc i.0) insts) [
   | inl fits ↦ rw fits.0 (get_or-drop (length rooms + 1) uses i.0 [])
   | inr past ↦ rw past.0 (get_or-drop (length rooms + 1) uses i.0 [] ∙ get_or_past uses (length rooms + 1 + i.0) [] (omega (arith, past.1)))
 ]
@@ -166,16 +166,16 @@ access_place-at blocks insts list lt = elim (leb_tells (suc list) blocks) [
 ]
 
 -- A user that the table has an entry for has a place.
-pub placed_there : (phis : List Bool) (lasts : List (Option InstNo)) (rooms : List Room) (base : ℕ) (entries : List (Option Access)) (uses : List (List User)) (spare insts : ℕ) (u : User)
-    → length entries ≡ base + insts → length phis ≡ length rooms → HasEntry (form_of phis lasts rooms base entries uses spare) u → user_place rooms base insts u ≢ None
-placed_there phis lasts rooms base entries uses spare insts (Inst i) len phis_len there e =
+pub placed_there : (phis : List Bool) (lasts : List (Option InstNo)) (rooms : List Room) (base : ℕ) (entries : List (Option Access)) (uses : List (List User)) (spare : ℕ) (waiting : List ℕ) (insts : ℕ) (u : User)
+    → length entries ≡ base + insts → length phis ≡ length rooms → HasEntry (form_of phis lasts rooms base entries uses spare waiting) u → user_place rooms base insts u ≢ None
+placed_there phis lasts rooms base entries uses spare waiting insts (Inst i) len phis_len there e =
     let lt : i.0 < insts = omega (arith, there, length-drop base entries) in
     let some : None ≡ Some (base + i.0) = sym e ∙ inst_place base insts i.0 lt in
     cc
-placed_there phis lasts rooms base entries uses spare insts (Entering b) len phis_len there e =
+placed_there phis lasts rooms base entries uses spare waiting insts (Entering b) len phis_len there e =
     let some : None ≡ Some (get_or rooms b.0 no_room).first = sym e ∙ entering_place rooms b.0 (omega arith) in
     cc
-placed_there phis lasts rooms base entries uses spare insts (Operand b slot) len phis_len there e = slot_there entries rooms b.0 slot there e
+placed_there phis lasts rooms base entries uses spare waiting insts (Operand b slot) len phis_len there e = slot_there entries rooms b.0 slot there e
   where
     slot_there : (entries : List (Option Access)) (rooms : List Room) (b slot : ℕ) → slot < length (get_or (map (operands_in entries) rooms) b []) → room_place (slice_get rooms b) (Some slot) ≢ None
     slot_there entries [] b slot lt e = absurd (omega arith)
@@ -184,16 +184,16 @@ placed_there phis lasts rooms base entries uses spare insts (Operand b slot) len
         cc
     slot_there entries (r ∷ rooms) (suc b) slot lt e = slot_there entries rooms b slot lt e
 
-pub listed_there : (phis : List Bool) (lasts : List (Option InstNo)) (rooms : List Room) (base : ℕ) (entries : List (Option Access)) (uses : List (List User)) (spare insts : ℕ) (a : Access)
-    → length entries ≡ base + insts → length phis ≡ length rooms → HasList (form_of phis lasts rooms base entries uses spare) a → access_place (length rooms) insts a ≢ None
-listed_there phis lasts rooms base entries uses spare insts Entry len phis_len there e = cc
-listed_there phis lasts rooms base entries uses spare insts (Phi b) len phis_len there e = elim (leb_tells (suc b.0) (length rooms)) [
+pub listed_there : (phis : List Bool) (lasts : List (Option InstNo)) (rooms : List Room) (base : ℕ) (entries : List (Option Access)) (uses : List (List User)) (spare : ℕ) (waiting : List ℕ) (insts : ℕ) (a : Access)
+    → length entries ≡ base + insts → length phis ≡ length rooms → HasList (form_of phis lasts rooms base entries uses spare waiting) a → access_place (length rooms) insts a ≢ None
+listed_there phis lasts rooms base entries uses spare waiting insts Entry len phis_len there e = cc
+listed_there phis lasts rooms base entries uses spare waiting insts (Phi b) len phis_len there e = elim (leb_tells (suc b.0) (length rooms)) [
   | inl fits ↦
       let some : Some b.0 ≡ None = rw fits.0 at e in
       cc
   | inr past ↦ absurd (omega (arith, past.1))
 ]
-listed_there phis lasts rooms base entries uses spare insts (Of i) len phis_len there e = elim (leb_tells (suc i.0) insts) [
+listed_there phis lasts rooms base entries uses spare waiting insts (Of i) len phis_len there e = elim (leb_tells (suc i.0) insts) [
   | inl fits ↦
       let some : Some (length rooms + 1 + i.0) ≡ None = rw fits.0 at e in
       cc

@@ -186,21 +186,21 @@ once-named rooms base users (m ∷ xs) p all once =
     (not_in-named rooms base users m xs p (all m (inl refl)) (λ k i. all k (inr i)) once.0, once-named rooms base users xs p (λ k i. all k (inr i)) once.1)
 
 -- the users of an access, from the list that it has
-users-view : (phis : List Bool) (lasts : List (Option InstNo)) (rooms : List Room) (base : ℕ) (users : List User) (homes : List (Option ℕ)) (lists : List (List ℕ)) (entries : List (Option Access)) (spare : ℕ) (a : Access)
+users-view : (phis : List Bool) (lasts : List (Option InstNo)) (rooms : List Room) (base : ℕ) (users : List User) (homes : List (Option ℕ)) (lists : List (List ℕ)) (entries : List (Option Access)) (spare : ℕ) (waiting : List ℕ) (a : Access)
     → IsForm phis lasts rooms base users homes lists
-    → users_of (form_of phis lasts rooms base entries (map (named users) lists) spare) a ≡ list_in (map (named users) lists) (access_place (length rooms) (length users - base) a)
-users-view phis lasts rooms base users homes lists entries spare a f =
-    users_of-form phis lasts rooms base entries (map (named users) lists) spare (length users - base) a (simp length-map (omega (arith, f.lists_len, f.placed.base_in)))
+    → users_of (form_of phis lasts rooms base entries (map (named users) lists) spare waiting) a ≡ list_in (map (named users) lists) (access_place (length rooms) (length users - base) a)
+users-view phis lasts rooms base users homes lists entries spare waiting a f =
+    users_of-form phis lasts rooms base entries (map (named users) lists) spare waiting (length users - base) a (simp length-map (omega (arith, f.lists_len, f.placed.base_in)))
 
 -- The list of each access holds exactly the users that name it, each once.
-pub users_exact : (phis : List Bool) (lasts : List (Option InstNo)) (rooms : List Room) (base : ℕ) (users : List User) (homes : List (Option ℕ)) (lists : List (List ℕ)) (spare : ℕ)
+pub users_exact : (phis : List Bool) (lasts : List (Option InstNo)) (rooms : List Room) (base : ℕ) (users : List User) (homes : List (Option ℕ)) (lists : List (List ℕ)) (spare : ℕ) (waiting : List ℕ)
     → IsForm phis lasts rooms base users homes lists → AreExact homes lists
-    → AreUsers (form_of phis lasts rooms base (entries_of (length rooms) homes) (map (named users) lists) spare)
-users_exact phis lasts rooms base users homes lists spare f exact a =
-    rw (users-view phis lasts rooms base users homes lists (entries_of (length rooms) homes) spare a f) (by_place (access_place (length rooms) (length users - base) a) refl)
+    → AreUsers (form_of phis lasts rooms base (entries_of (length rooms) homes) (map (named users) lists) spare waiting)
+users_exact phis lasts rooms base users homes lists spare waiting f exact a =
+    rw (users-view phis lasts rooms base users homes lists (entries_of (length rooms) homes) spare waiting a f) (by_place (access_place (length rooms) (length users - base) a) refl)
   where
-    entry_is : (u : User) (place : Option ℕ) → user_place rooms base (length users - base) u ≡ place → entry_of (form_of phis lasts rooms base (entries_of (length rooms) homes) (map (named users) lists) spare) u ≡ entry_named (length rooms) homes place
-    entry_is u place e = entry-view phis lasts rooms base users homes lists (map (named users) lists) spare (length users - base) u place f refl (sym e)
+    entry_is : (u : User) (place : Option ℕ) → user_place rooms base (length users - base) u ≡ place → entry_of (form_of phis lasts rooms base (entries_of (length rooms) homes) (map (named users) lists) spare waiting) u ≡ entry_named (length rooms) homes place
+    entry_is u place e = entry-view phis lasts rooms base users homes lists (map (named users) lists) spare waiting (length users - base) u place f refl (sym e)
 
     named_one : (n : ℕ) (home : Option ℕ) → get_or homes n None ≡ home → option_map (access_at (length rooms)) home ≡ Some a → (list : ℕ) × (get_or homes n None ≡ Some list) × (access_at (length rooms) list ≡ a)
     named_one n None e w = cc
@@ -211,7 +211,7 @@ users_exact phis lasts rooms base users homes lists spare f exact a =
     place_of u (Some n) e w = (n, e, w)
 
     -- a user that names the access has its number in the list
-    found : (u : User) → entry_of (form_of phis lasts rooms base (entries_of (length rooms) homes) (map (named users) lists) spare) u ≡ Some a → (list n : ℕ) × (access_place (length rooms) (length users - base) a ≡ Some list) × IsIn n (get_or lists list []) × (user_at users n ≡ u)
+    found : (u : User) → entry_of (form_of phis lasts rooms base (entries_of (length rooms) homes) (map (named users) lists) spare waiting) u ≡ Some a → (list n : ℕ) × (access_place (length rooms) (length users - base) a ≡ Some list) × IsIn n (get_or lists list []) × (user_at users n ≡ u)
     found u w =
         let at = place_of u (user_place rooms base (length users - base) u) refl (sym (entry_is u (user_place rooms base (length users - base) u) refl) ∙ w) in
         let n : ℕ = at.0 in
@@ -230,7 +230,7 @@ users_exact phis lasts rooms base users homes lists spare f exact a =
         ]
 
     by_place : (place : Option ℕ) → access_place (length rooms) (length users - base) a ≡ place
-        → EachOnce (list_in (map (named users) lists) place) × ((u : User) → IsIn u (list_in (map (named users) lists) place) ↔ (entry_of (form_of phis lasts rooms base (entries_of (length rooms) homes) (map (named users) lists) spare) u ≡ Some a))
+        → EachOnce (list_in (map (named users) lists) place) × ((u : User) → IsIn u (list_in (map (named users) lists) place) ↔ (entry_of (form_of phis lasts rooms base (entries_of (length rooms) homes) (map (named users) lists) spare waiting) u ≡ Some a))
     by_place None e = (
       tt,
       λ u. (
@@ -260,16 +260,16 @@ users_exact phis lasts rooms base users homes lists spare f exact a =
         )
 
 -- The user behind another, from the number behind it.
-pub next-view : (phis : List Bool) (lasts : List (Option InstNo)) (rooms : List Room) (base : ℕ) (users : List User) (homes : List (Option ℕ)) (lists : List (List ℕ)) (spare insts : ℕ) (u : User) (n : ℕ)
+pub next-view : (phis : List Bool) (lasts : List (Option InstNo)) (rooms : List Room) (base : ℕ) (users : List User) (homes : List (Option ℕ)) (lists : List (List ℕ)) (spare : ℕ) (waiting : List ℕ) (insts : ℕ) (u : User) (n : ℕ)
     → IsForm phis lasts rooms base users homes lists → AreExact homes lists → insts ≡ length users - base → Some n ≡ user_place rooms base insts u
-    → next_of (form_of phis lasts rooms base (entries_of (length rooms) homes) (map (named users) lists) spare) u ≡ option_map (user_at users) (behind_at n lists (get_or homes n None))
-next-view phis lasts rooms base users homes lists spare insts u n f exact e is =
-    rw (entry-view phis lasts rooms base users homes lists (map (named users) lists) spare insts u (Some n) f e is) (by_home (get_or homes n None) refl)
+    → next_of (form_of phis lasts rooms base (entries_of (length rooms) homes) (map (named users) lists) spare waiting) u ≡ option_map (user_at users) (behind_at n lists (get_or homes n None))
+next-view phis lasts rooms base users homes lists spare waiting insts u n f exact e is =
+    rw (entry-view phis lasts rooms base users homes lists (map (named users) lists) spare waiting insts u (Some n) f e is) (by_home (get_or homes n None) refl)
   where
     at_place : user_place rooms base (length users - base) u ≡ Some n
     at_place = rw (← e) (sym is)
 
-    by_home : (home : Option ℕ) → get_or homes n None ≡ home → next_at (form_of phis lasts rooms base (entries_of (length rooms) homes) (map (named users) lists) spare) u (option_map (access_at (length rooms)) home) ≡ option_map (user_at users) (behind_at n lists home)
+    by_home : (home : Option ℕ) → get_or homes n None ≡ home → next_at (form_of phis lasts rooms base (entries_of (length rooms) homes) (map (named users) lists) spare waiting) u (option_map (access_at (length rooms)) home) ≡ option_map (user_at users) (behind_at n lists home)
     by_home None h = refl
     by_home (Some list) h =
         let there = f.placed.at u n at_place in
@@ -277,7 +277,7 @@ next-view phis lasts rooms base users homes lists spare insts u n f exact e is =
         let listed : IsIn n (get_or lists list []) = ((exact list).1 n).1 h in
         let within : list < length lists = list_within list listed in
         let place_is : access_place (length rooms) (length users - base) (access_at (length rooms) list) ≡ Some list = access_place-at (length rooms) (length users - base) list (omega (arith, within, f.lists_len, f.placed.base_in)) in
-        rw (users-view phis lasts rooms base users homes lists (entries_of (length rooms) homes) spare (access_at (length rooms) list) f, place_is, get_or-named users lists list, ← there.1)
+        rw (users-view phis lasts rooms base users homes lists (entries_of (length rooms) homes) spare waiting (access_at (length rooms) list) f, place_is, get_or-named users lists list, ← there.1)
         (sym (named-behind rooms base users n (get_or lists list []) f.placed there.0 all))
       where
         list_within : (list : ℕ) → IsIn n (get_or lists list []) → list < length lists
@@ -289,44 +289,44 @@ next-view phis lasts rooms base users homes lists spare insts u n f exact e is =
         ]
 
 -- A number is taken out of its list: its user names no access.
-pub form-unlinked : (phis : List Bool) (lasts : List (Option InstNo)) (rooms : List Room) (base : ℕ) (users : List User) (homes : List (Option ℕ)) (lists : List (List ℕ)) (spare insts : ℕ) (u : User) (n : ℕ)
+pub form-unlinked : (phis : List Bool) (lasts : List (Option InstNo)) (rooms : List Room) (base : ℕ) (users : List User) (homes : List (Option ℕ)) (lists : List (List ℕ)) (spare : ℕ) (waiting : List ℕ) (insts : ℕ) (u : User) (n : ℕ)
     → IsForm phis lasts rooms base users homes lists → AreExact homes lists → insts ≡ length users - base → Some n ≡ user_place rooms base insts u
-    → form_of phis lasts rooms base (entries_of (length rooms) (set homes n None)) (map (named users) (map (without n) lists)) spare
-    ≡ cleared u (form_of phis lasts rooms base (entries_of (length rooms) homes) (map (named users) lists) spare)
-form-unlinked phis lasts rooms base users homes lists spare insts u n f exact e is =
+    → form_of phis lasts rooms base (entries_of (length rooms) (set homes n None)) (map (named users) (map (without n) lists)) spare waiting
+    ≡ cleared u (form_of phis lasts rooms base (entries_of (length rooms) homes) (map (named users) lists) spare waiting)
+form-unlinked phis lasts rooms base users homes lists spare waiting insts u n f exact e is =
     let place : user_place rooms base (length users - base) u ≡ Some n = rw (← e) (sym is) in
     let there = f.placed.at u n place in
     let all = λ (list : ℕ). listed_all users homes lists list exact f.homes_len in
     let len : length (entries_of (length rooms) homes) ≡ length users = simp length-map f.homes_len in
     rw (map-set (option_map (access_at (length rooms))) homes n None, lists-without rooms base users n lists f.placed there.0 all, there.1)
-    (form_of-entry phis lasts rooms base users (entries_of (length rooms) homes) (map (without_user u) (map (named users) lists)) spare u n None f.placed len place
-    ∙ ap (entry_set u None) (form_of-without phis lasts rooms base (entries_of (length rooms) homes) (map (named users) lists) spare u))
+    (form_of-entry phis lasts rooms base users (entries_of (length rooms) homes) (map (without_user u) (map (named users) lists)) spare waiting u n None f.placed len place
+    ∙ ap (entry_set u None) (form_of-without phis lasts rooms base (entries_of (length rooms) homes) (map (named users) lists) spare waiting u))
 
 -- A number is put to the front of a list: its user names the access of the list.
-pub form-linked : (phis : List Bool) (lasts : List (Option InstNo)) (rooms : List Room) (base : ℕ) (users : List User) (homes : List (Option ℕ)) (lists : List (List ℕ)) (spare insts : ℕ) (u : User) (to : Access) (n list : ℕ)
+pub form-linked : (phis : List Bool) (lasts : List (Option InstNo)) (rooms : List Room) (base : ℕ) (users : List User) (homes : List (Option ℕ)) (lists : List (List ℕ)) (spare : ℕ) (waiting : List ℕ) (insts : ℕ) (u : User) (to : Access) (n list : ℕ)
     → IsForm phis lasts rooms base users homes lists → insts ≡ length users - base → Some n ≡ user_place rooms base insts u → Some list ≡ access_place (length rooms) insts to
-    → form_of phis lasts rooms base (entries_of (length rooms) (set homes n (Some list))) (map (named users) (set lists list (n ∷ get_or lists list []))) spare
-    ≡ linked u to (form_of phis lasts rooms base (entries_of (length rooms) homes) (map (named users) lists) spare)
-form-linked phis lasts rooms base users homes lists spare insts u to n list f e is list_is =
+    → form_of phis lasts rooms base (entries_of (length rooms) (set homes n (Some list))) (map (named users) (set lists list (n ∷ get_or lists list []))) spare waiting
+    ≡ linked u to (form_of phis lasts rooms base (entries_of (length rooms) homes) (map (named users) lists) spare waiting)
+form-linked phis lasts rooms base users homes lists spare waiting insts u to n list f e is list_is =
     let place : user_place rooms base (length users - base) u ≡ Some n = rw (← e) (sym is) in
     let there = f.placed.at u n place in
     let len : length (entries_of (length rooms) homes) ≡ length users = simp length-map f.homes_len in
     let uses_len : length (map (named users) lists) ≡ length rooms + 1 + insts = simp length-map (omega (arith, f.lists_len, f.placed.base_in)) in
     rw (map-set (option_map (access_at (length rooms))) homes n (Some list), map-set (named users) lists list (n ∷ get_or lists list []), access_at-place (length rooms) insts to list (sym list_is), there.1, ← get_or-named users lists list)
-    (form_of-front phis lasts rooms base insts (set (entries_of (length rooms) homes) n (Some to)) (map (named users) lists) spare u to list uses_len (sym list_is)
-    ∙ ap (put_in u to) (form_of-entry phis lasts rooms base users (entries_of (length rooms) homes) (map (named users) lists) spare u n (Some to) f.placed len place))
+    (form_of-front phis lasts rooms base insts (set (entries_of (length rooms) homes) n (Some to)) (map (named users) lists) spare waiting u to list uses_len (sym list_is)
+    ∙ ap (put_in u to) (form_of-entry phis lasts rooms base users (entries_of (length rooms) homes) (map (named users) lists) spare waiting u n (Some to) f.placed len place))
 
 -- One more instruction is the user of the next place.
-pub form-grown : (phis : List Bool) (lasts : List (Option InstNo)) (rooms : List Room) (base : ℕ) (users : List User) (homes : List (Option ℕ)) (lists : List (List ℕ)) (spare : ℕ) (i : InstNo)
+pub form-grown : (phis : List Bool) (lasts : List (Option InstNo)) (rooms : List Room) (base : ℕ) (users : List User) (homes : List (Option ℕ)) (lists : List (List ℕ)) (spare : ℕ) (waiting : List ℕ) (i : InstNo)
     → IsForm phis lasts rooms base users homes lists → AreExact homes lists
-    → form_of phis lasts rooms base (entries_of (length rooms) (homes ++ None ∷ [])) (map (named (users ++ Inst i ∷ [])) (lists ++ [] ∷ [])) (spare - 1)
-    ≡ grown (form_of phis lasts rooms base (entries_of (length rooms) homes) (map (named users) lists) spare)
-form-grown phis lasts rooms base users homes lists spare i f exact =
+    → form_of phis lasts rooms base (entries_of (length rooms) (homes ++ None ∷ [])) (map (named (users ++ Inst i ∷ [])) (lists ++ [] ∷ [])) (spare - 1) waiting
+    ≡ grown (form_of phis lasts rooms base (entries_of (length rooms) homes) (map (named users) lists) spare waiting)
+form-grown phis lasts rooms base users homes lists spare waiting i f exact =
     let all = λ (list : ℕ). listed_all users homes lists list exact f.homes_len in
     let len : length (entries_of (length rooms) homes) ≡ base + (length users - base) = simp length-map (omega (arith, f.homes_len, f.placed.base_in)) in
     let uses_len : length (map (named users) lists) ≡ length rooms + 1 + (length users - base) = simp length-map (omega (arith, f.lists_len, f.placed.base_in)) in
     rw (map-append (option_map (access_at (length rooms))) homes (None ∷ []), map-append (named (users ++ Inst i ∷ [])) lists ([] ∷ []), lists-push users (Inst i) lists all)
-    (form_of-grown phis lasts rooms base (length users - base) (entries_of (length rooms) homes) (map (named users) lists) spare f.placed.within len uses_len)
+    (form_of-grown phis lasts rooms base (length users - base) (entries_of (length rooms) homes) (map (named users) lists) spare waiting f.placed.within len uses_len)
 
 pub is_form-grown : (phis : List Bool) (lasts : List (Option InstNo)) (rooms : List Room) (base : ℕ) (users : List User) (homes : List (Option ℕ)) (lists : List (List ℕ)) (i : InstNo)
     → IsForm phis lasts rooms base users homes lists → i.0 ≡ length users - base → i.0 < 2 ^ 32 → IsForm phis lasts rooms base (users ++ Inst i ∷ []) (homes ++ None ∷ []) (lists ++ [] ∷ [])
@@ -376,7 +376,7 @@ operands-empty (r ∷ rooms) count within =
     rw (drop-replicate {X = Option Access} (r.first + 1) count None, take-replicate {X = Option Access} r.slots (count - (r.first + 1)) None (omega arith), operands-empty rooms count (λ b lt'. within (suc b) (omega arith))) refl
 
 pub form-empty : (rooms : List Room) (base : ℕ) (users : List User) (blocks insts count lists : ℕ) → AreWithin rooms base → blocks ≡ length rooms → count ≡ base + insts → lists ≡ blocks + 1 + insts
-    → form_of (replicate blocks false) (replicate blocks None) rooms base (entries_of (length rooms) (replicate count None)) (map (named users) (replicate lists [])) 0 ≡ empty_form (map slots_of rooms) insts
+    → form_of (replicate blocks false) (replicate blocks None) rooms base (entries_of (length rooms) (replicate count None)) (map (named users) (replicate lists [])) 0 [] ≡ empty_form (map slots_of rooms) insts
 form-empty rooms base users blocks insts count lists within blocks_are count_is lists_are =
     let slots_len : length (map slots_of rooms) ≡ blocks = simp length-map (sym blocks_are) in
     rw (
@@ -401,6 +401,7 @@ form-empty rooms base users blocks insts count lists within blocks_are count_is 
       phi_users = replicate blocks [];
       inst_users = replicate (lists - (blocks + 1)) [];
       spare = 0;
+      waiting = [];
     }) (omega arith) ∙ ap (λ (n : ℕ). record {
       phis = replicate blocks false;
       lasts = replicate blocks None;
@@ -411,4 +412,5 @@ form-empty rooms base users blocks insts count lists within blocks_are count_is 
       phi_users = replicate blocks [];
       inst_users = replicate n [];
       spare = 0;
+      waiting = [];
     }) (omega arith))

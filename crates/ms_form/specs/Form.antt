@@ -9,7 +9,8 @@ use Rattle.ms_form.specs.declared.access.User.TheVariants.{Inst, Operand, Enteri
 use Rattle.ms_form.specs.Lists.{IsIn, EachOnce}
 
 -- By block: whether it has a phi, its last Def, the access that enters it, the operand of each predecessor slot. By instruction: the access that it names.
--- Then the users of the entry, of each block's phi and of each instruction; and how many more instructions there is room for.
+-- Then the users of the entry, of each block's phi and of each instruction; how many more instructions there is room for;
+-- and the blocks that wait, the one that began last at the end.
 pub record FormState : Type 0 where
   pub phis : List Bool
   pub lasts : List (Option InstNo)
@@ -20,6 +21,7 @@ pub record FormState : Type 0 where
   pub phi_users : List (List User)
   pub inst_users : List (List User)
   pub spare : ℕ
+  pub waiting : List ℕ
 
 -- the access that a user names, as it is stored
 abbrev pub entry_of : FormState → User → Option Access
@@ -189,4 +191,5 @@ empty_form counts insts = record {
   phi_users = replicate (length counts) [];
   inst_users = replicate insts [];
   spare = 0;
+  waiting = [];
 }

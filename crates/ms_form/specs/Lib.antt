@@ -1,4 +1,5 @@
 pub mod Lists
+pub mod Waiting
 pub mod Chains
 pub mod Form
 pub mod Places

@@ -70,8 +70,8 @@ abbrev pub named : List User → List ℕ → List User
 named users numbers = map (user_at users) numbers
 
 -- the table that contracts see
-abbrev pub form_of : List Bool → List (Option InstNo) → List Room → ℕ → List (Option Access) → List (List User) → ℕ → FormState
-form_of phis lasts rooms base entries uses spare = record {
+abbrev pub form_of : List Bool → List (Option InstNo) → List Room → ℕ → List (Option Access) → List (List User) → ℕ → List ℕ → FormState
+form_of phis lasts rooms base entries uses spare waiting = record {
   phis = phis;
   lasts = lasts;
   enters = map (entering_in entries) rooms;
@@ -81,6 +81,7 @@ form_of phis lasts rooms base entries uses spare = record {
   phi_users = take (length rooms) uses;
   inst_users = drop (length rooms + 1) uses;
   spare = spare;
+  waiting = waiting;
 }
 
 pub record IsForm (phis : List Bool) (lasts : List (Option InstNo)) (rooms : List Room) (base : ℕ) (users : List User) (homes : List (Option ℕ)) (lists : List (List ℕ)) : Type 0 where

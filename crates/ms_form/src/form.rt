@@ -1,11 +1,13 @@
 // The table, and the lists of users that it keeps.
-ghost use Rattle.std.specs.Prelude.{◌≡◌, ◌<◌, ◌≤◌, ◌+◌, ◌^◌, ◌⊎◌, ℕ, List, [], length, slice_get, slice_index_or, slice_set, max, OnOk, OnErr, OnSome, IfOk, IsSome, Some, None, false};
+ghost use Rattle.std.specs.Prelude.{◌≡◌, ◌<◌, ◌≤◌, ◌+◌, ◌^◌, ◌⊎◌, ◌++◌, ◌∷◌, ℕ, List, [], length, slice_get, slice_index_or, slice_set, max, OnOk, OnErr, OnSome, IfOk, IsSome, MatchOption, Some, None, false};
 ghost use Rattle.ms_form.specs.Form.{AreUsers, IsTable, HasUser, HasAccess, HasEntry, HasList, HasInst, HasLast, HasPlaces, KeepsPlaces, entry_of, users_of, entering_of, leaving_of, next_of, placed, user_placed, access_placed, last_placed, cleared, linked, relinked, empty_form};
 ghost use Rattle.ms_form.specs.Counts.{pred_counts};
+ghost use Rattle.ms_form.specs.Waiting.{with_waiting};
 
 use crate::access::{Access, User};
 use crate::chains::Chains;
 use crate::places::{Places, Room, access_of, list_of, place_of, push_insts};
+use crate::waiting::Waiting;
 use ms_flow::Flow;
 use ms_ir::{BlockNo, InstNo, NoMemory};
 use std::alloc::Global;
@@ -20,20 +22,21 @@ pub struct Form {
     base: usize,
     users: Vec<User>,
     chains: Chains,
+    waiting: Waiting,
 }
 
 impl Model for Form {
-    ghost use Rattle.std.specs.Prelude.{◌≤◌, ◌+◌, length, map, vec_len, vec_capacity};
+    ghost use Rattle.std.specs.Prelude.{◌≡◌, ◌≤◌, ◌+◌, length, map, vec_len, vec_capacity};
     ghost use Rattle.ms_form.specs.Form.{FormState};
     ghost use Rattle.ms_form.specs.Places.{IsForm, form_of, entries_of, named};
 
     ghost Value = { FormState };
 
     ghost view = { λ f. form_of f.phis.items f.lasts.items f.rooms.items f.base
-        (entries_of (length f.rooms.items) f.chains.homes) (map (named f.users.items) f.chains.lists) f.chains.spare };
+        (entries_of (length f.rooms.items) f.chains.homes) (map (named f.users.items) f.chains.lists) f.chains.spare f.waiting.list };
 
     ghost invariant = { λ f. IsForm f.phis.items f.lasts.items f.rooms.items f.base f.users.items f.chains.homes f.chains.lists
-        × (vec_len f.users + f.chains.spare ≤ vec_capacity f.users) };
+        × (vec_len f.users + f.chains.spare ≤ vec_capacity f.users) × (f.waiting.blocks ≡ length f.phis.items) };
 }
 
 impl Form {
@@ -253,6 +256,34 @@ impl Form {
         self.lasts[b.0 as usize] = last;
     }
 
+    /// The block waits from now on, behind those that wait already, if it is none of them.
+    pub fn wait(&mut self, b: BlockNo)
+        requires { b.0 < length self.old.phis }
+        ensures wait { self.new ≡ record self.old { waiting = with_waiting b.0 self.old.waiting } }
+        ensures places { KeepsPlaces self.old self.new }
+    {
+        self.waiting.put(b.0);
+    }
+
+    /// The block that began to wait last, which waits no more. `None` exactly where no block waits.
+    pub fn next_waiting(&mut self) -> Option<BlockNo>
+        ensures next { MatchOption result ((self.old.waiting ≡ []) × (self.new ≡ self.old))
+            (λ b. (b.0 < length self.old.phis) × (self.old.waiting ≡ self.new.waiting ++ b.0 ∷ []) × (self.new ≡ record self.old { waiting = self.new.waiting })) }
+        ensures places { KeepsPlaces self.old self.new }
+    {
+        match self.waiting.next() {
+            Some(b) => Some(BlockNo(b)),
+            None => None,
+        }
+    }
+
+    /// A law: no block waits twice.
+    pub fn waits_once(&self)
+        ensures { length self.now.waiting ≤ length self.now.phis }
+    {
+        self.waiting.once();
+    }
+
     // An empty form, by the number of predecessor slots of each block.
     pub(crate) fn with_places(alloc: Global, counts: &[u32], insts: u32) -> Result<Form, NoMemory>
         requires { length counts.now < 2 ^ 32 }
@@ -265,6 +296,7 @@ impl Form {
         let chains = Chains::free(alloc, users.len(), rooms.len() + 1 + insts as usize)?;
         let phis = vec![in alloc; false; rooms.len()]?;
         let lasts = vec![in alloc; None; rooms.len()]?;
+        let waiting = Waiting::none(alloc, rooms.len())?;
         Ok(Form {
             phis,
             lasts,
@@ -272,6 +304,7 @@ impl Form {
             base,
             users,
             chains,
+            waiting,
         })
     }
 

@@ -7,6 +7,7 @@ mod form;
 mod places;
 #[cfg(test)]
 mod tests;
+mod waiting;
 
 pub use access::{Access, User};
 pub use form::Form;

@@ -77,6 +77,20 @@ fn end_with_store(form: &mut Form) -> Access
     form.leaving(BlockNo(2))
 }
 
+// Blocks wait in turn, each once.
+fn check_waiting(rt: &impl Abort, form: &mut Form)
+    requires { HasPlaces (0 ∷ 2 ∷ 1 ∷ []) 2 form.old }
+    ensures { HasPlaces (0 ∷ 2 ∷ 1 ∷ []) 2 form.new }
+{
+    form.wait(BlockNo(2));
+    form.wait(BlockNo(0));
+    form.wait(BlockNo(2));
+    form.waits_once();
+    assert!(rt; form.next_waiting() == Some(BlockNo(0)));
+    assert!(rt; form.next_waiting() == Some(BlockNo(2)));
+    assert!(rt; form.next_waiting().is_none());
+}
+
 const STORE: User = User::Inst(InstNo(0));
 
 const LOAD: User = User::Inst(InstNo(1));
@@ -94,6 +108,7 @@ fn a_small_form(rt: HostRuntime) {
         .ok()
         .expect(&rt, "memory");
     check_users(&rt, &form, Access::Entry, &[]);
+    check_waiting(&rt, &mut form);
     let links = [
         (STORE, Some(Access::Entry)),
         (LEFT, Some(Access::Entry)),

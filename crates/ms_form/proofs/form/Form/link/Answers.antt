@@ -12,7 +12,7 @@ unreachable-requires c =
     let s = c.self.inside in
     let there = rw (← c.self.view_is) at c.requires.user in
     let len : length (entries_of (length s.rooms.items) s.chains.homes) ≡ s.base + (c.len.result - s.base) = simp length-map (omega (arith, c.self.invariant.0.homes_len, c.self.invariant.0.placed.base_in, s.users.ok.0)) in
-    placed_there s.phis.items s.lasts.items s.rooms.items s.base (entries_of (length s.rooms.items) s.chains.homes) (map (named s.users.items) s.chains.lists) s.chains.spare (c.len.result - s.base) c.args.u len c.self.invariant.0.phis_len there (sym c.in-None.ensures)
+    placed_there s.phis.items s.lasts.items s.rooms.items s.base (entries_of (length s.rooms.items) s.chains.homes) (map (named s.users.items) s.chains.lists) s.chains.spare s.waiting.list (c.len.result - s.base) c.args.u len c.self.invariant.0.phis_len there (sym c.in-None.ensures)
 
 pub put-requires-clause-number : goal.put-requires-clause-number
 put-requires-clause-number c =
@@ -25,7 +25,7 @@ put-requires-clause-free c =
     let s = c.self.inside in
     let free = rw (← c.self.view_is) at c.requires.free in
     none_from (length s.rooms.items) (get_or s.chains.homes c.in-Some.number None)
-    (sym (entry-view s.phis.items s.lasts.items s.rooms.items s.base s.users.items s.chains.homes s.chains.lists (map (named s.users.items) s.chains.lists) s.chains.spare (c.len.result - s.base) c.args.u (Some c.in-Some.number) c.self.invariant.0 (omega (arith, s.users.ok.0)) c.in-Some.ensures) ∙ free)
+    (sym (entry-view s.phis.items s.lasts.items s.rooms.items s.base s.users.items s.chains.homes s.chains.lists (map (named s.users.items) s.chains.lists) s.chains.spare s.waiting.list (c.len.result - s.base) c.args.u (Some c.in-Some.number) c.self.invariant.0 (omega (arith, s.users.ok.0)) c.in-Some.ensures) ∙ free)
   where
     none_from : (blocks : ℕ) (home : Option ℕ) → option_map (access_at blocks) home ≡ None → home ≡ None
     none_from blocks None e = refl
@@ -38,4 +38,4 @@ returns c =
     let blocks_are : c.len-2.result ≡ length s.rooms.items = omega (arith, s.rooms.ok.0) in
     let list_is : Some c.in-Some-entry.list ≡ access_place (length s.rooms.items) (c.len.result - s.base) c.args.to = rw (← insts_is, ← blocks_are) c.in-Some-entry.ensures in
     rw (c.put.ensures, ← c.self.view_is)
-    (form-linked s.phis.items s.lasts.items s.rooms.items s.base s.users.items s.chains.homes s.chains.lists s.chains.spare (c.len.result - s.base) c.args.u c.args.to c.in-Some.number c.in-Some-entry.list c.self.invariant.0 (omega (arith, s.users.ok.0)) c.in-Some.ensures list_is)
+    (form-linked s.phis.items s.lasts.items s.rooms.items s.base s.users.items s.chains.homes s.chains.lists s.chains.spare s.waiting.list (c.len.result - s.base) c.args.u c.args.to c.in-Some.number c.in-Some-entry.list c.self.invariant.0 (omega (arith, s.users.ok.0)) c.in-Some.ensures list_is)

@@ -9,7 +9,7 @@ use Rattle.ms_form.proofs.form.Form.next_use.Goals as goal
 pub returns-in_err-number : goal.returns-in_err-number
 returns-in_err-number c =
     let s = c.self.inside in
-    rw (c.from_residual.ensures, ← c.self.view_is, entry-view s.phis.items s.lasts.items s.rooms.items s.base s.users.items s.chains.homes s.chains.lists (map (named s.users.items) s.chains.lists) s.chains.spare (c.len.result - s.base) c.args.u None c.self.invariant.0 (omega (arith, s.users.ok.0)) c.in_err-number.ensures)
+    rw (c.from_residual.ensures, ← c.self.view_is, entry-view s.phis.items s.lasts.items s.rooms.items s.base s.users.items s.chains.homes s.chains.lists (map (named s.users.items) s.chains.lists) s.chains.spare s.waiting.list (c.len.result - s.base) c.args.u None c.self.invariant.0 (omega (arith, s.users.ok.0)) c.in_err-number.ensures)
     refl
 
 pub after-requires : goal.after-requires
@@ -23,7 +23,7 @@ returns-in_err-next c =
     let s = c.self.inside in
     rw (c.from_residual-in_err-next.ensures, ← c.self.view_is)
     (ap (option_map (user_at s.users.items)) c.in_err-next.ensures.number
-    ∙ sym (next-view s.phis.items s.lasts.items s.rooms.items s.base s.users.items s.chains.homes s.chains.lists s.chains.spare (c.len.result - s.base) c.args.u c.in_ok-number.number c.self.invariant.0 c.exact.ensures (omega (arith, s.users.ok.0)) c.in_ok-number.ensures))
+    ∙ sym (next-view s.phis.items s.lasts.items s.rooms.items s.base s.users.items s.chains.homes s.chains.lists s.chains.spare s.waiting.list (c.len.result - s.base) c.args.u c.in_ok-number.number c.self.invariant.0 c.exact.ensures (omega (arith, s.users.ok.0)) c.in_ok-number.ensures))
 
 pub returns : goal.returns
 returns c =
@@ -31,4 +31,4 @@ returns c =
     let within : c.in_ok-next.next < length s.users.items = omega (arith, c.in_ok-next.ensures.below, c.self.invariant.0.homes_len) in
     rw (← c.self.view_is)
     (ap Some (c.index.ensures ∙ get_or_default s.users.items c.in_ok-next.next c.index.result.now no_user within) ∙ ap (option_map (user_at s.users.items)) c.in_ok-next.ensures.number
-    ∙ sym (next-view s.phis.items s.lasts.items s.rooms.items s.base s.users.items s.chains.homes s.chains.lists s.chains.spare (c.len.result - s.base) c.args.u c.in_ok-number.number c.self.invariant.0 c.exact.ensures (omega (arith, s.users.ok.0)) c.in_ok-number.ensures))
+    ∙ sym (next-view s.phis.items s.lasts.items s.rooms.items s.base s.users.items s.chains.homes s.chains.lists s.chains.spare s.waiting.list (c.len.result - s.base) c.args.u c.in_ok-number.number c.self.invariant.0 c.exact.ensures (omega (arith, s.users.ok.0)) c.in_ok-number.ensures))

@@ -10,7 +10,7 @@ unreachable-requires c =
     let s = c.self.inside in
     let there = rw (← c.self.view_is) at c.requires in
     let len : length (entries_of (length s.rooms.items) s.chains.homes) ≡ s.base + (c.len.result - s.base) = simp length-map (omega (arith, c.self.invariant.0.homes_len, c.self.invariant.0.placed.base_in, s.users.ok.0)) in
-    placed_there s.phis.items s.lasts.items s.rooms.items s.base (entries_of (length s.rooms.items) s.chains.homes) (map (named s.users.items) s.chains.lists) s.chains.spare (c.len.result - s.base) c.args.u len c.self.invariant.0.phis_len there (sym c.in-None.ensures)
+    placed_there s.phis.items s.lasts.items s.rooms.items s.base (entries_of (length s.rooms.items) s.chains.homes) (map (named s.users.items) s.chains.lists) s.chains.spare s.waiting.list (c.len.result - s.base) c.args.u len c.self.invariant.0.phis_len there (sym c.in-None.ensures)
 
 pub take-requires : goal.take-requires
 take-requires c =
@@ -22,4 +22,4 @@ pub returns : goal.returns
 returns c =
     let s = c.self.inside in
     rw (c.take.ensures, ← c.self.view_is)
-    (form-unlinked s.phis.items s.lasts.items s.rooms.items s.base s.users.items s.chains.homes s.chains.lists s.chains.spare (c.len.result - s.base) c.args.u c.in-Some.number c.self.invariant.0 c.exact.ensures (omega (arith, s.users.ok.0)) c.in-Some.ensures)
+    (form-unlinked s.phis.items s.lasts.items s.rooms.items s.base s.users.items s.chains.homes s.chains.lists s.chains.spare s.waiting.list (c.len.result - s.base) c.args.u c.in-Some.number c.self.invariant.0 c.exact.ensures (omega (arith, s.users.ok.0)) c.in-Some.ensures)

@@ -1,5 +1,5 @@
 use Rattle.std.proofs.Common.{◌≡◌, ◌∙◌, ◌+◌, ◌++◌, ℕ, false, None, List, sym, ap, arith, rules, length}
-use Rattle.std.proofs.Math.ListN.{replicate}
+use Rattle.std.proofs.Math.ListN.{replicate, length-replicate}
 use Rattle.std.proofs.lemmas.List.{length-map, length-append}
 use Rattle.ms_form.specs.Form.{empty_form}
 use Rattle.ms_form.specs.Places.{IsPlaced, inst_users_up_to}
@@ -22,9 +22,10 @@ invariant_of-result c =
     let count_is : c.len.result ≡ length (users.items ++ inst_users_up_to c.args.insts) = omega (arith, c.push_insts.new.users.ok.0, ap length users_are) in
     let lists_are : c.len-2.result + 1 + c.args.insts ≡ c.len-3.result + 1 + c.args.insts = omega arith in
     let placed : IsPlaced rooms.items c.len-base.result users.items = rw base_is c.in_ok-rooms.ensures.0 in
-    rw (phis_are, lasts_are, users_are, c.in_ok-chains.ensures) (
+    rw (phis_are, lasts_are, users_are, c.in_ok-chains.ensures, c.in_ok-waiting.ensures) (
       is_form-empty rooms.items c.len-base.result users.items c.len-3.result c.args.insts c.len.result (c.len-2.result + 1 + c.args.insts) placed (sym base_is) blocks_are (omega (arith, c.requires)) (omega arith) count_is lists_are,
       omega arith,
+      omega (arith, length-replicate c.len-3.result false),
     )
 
 pub returns-clause-form : goal.returns-clause-form
@@ -42,7 +43,7 @@ returns-clause-form c =
     let count_is : c.len.result ≡ length (users.items ++ inst_users_up_to c.args.insts) = omega (arith, c.push_insts.new.users.ok.0, ap length users_are) in
     let lists_are : c.len-2.result + 1 + c.args.insts ≡ c.len-3.result + 1 + c.args.insts = omega arith in
     let placed : IsPlaced rooms.items c.len-base.result users.items = rw base_is c.in_ok-rooms.ensures.0 in
-    rw (phis_are, lasts_are, c.in_ok-chains.ensures)
+    rw (phis_are, lasts_are, c.in_ok-chains.ensures, c.in_ok-waiting.ensures)
     (form-empty rooms.items c.len-base.result c.push_insts.new.users.items c.len-3.result c.args.insts c.len.result (c.len-2.result + 1 + c.args.insts) placed.within blocks_are
     (omega (arith, count_is, length-append users.items (inst_users_up_to c.args.insts), length-insts c.args.insts)) lists_are
     ∙ ap (λ (counts : List ℕ). empty_form counts c.args.insts) c.in_ok-rooms.ensures.1)
@@ -65,4 +66,4 @@ returns-clause-places c =
     let form = form-empty rooms.items c.len-base.result c.push_insts.new.users.items c.len-3.result c.args.insts c.len.result (c.len-2.result + 1 + c.args.insts) placed.within blocks_are
     (omega (arith, count_is, length-append users.items (inst_users_up_to c.args.insts), length-insts c.args.insts)) lists_are
     ∙ ap (λ (counts : List ℕ). empty_form counts c.args.insts) c.in_ok-rooms.ensures.1 in
-    rw (phis_are, lasts_are, c.in_ok-chains.ensures, form) (places-empty c.args.counts.now c.args.insts)
+    rw (phis_are, lasts_are, c.in_ok-chains.ensures, c.in_ok-waiting.ensures, form) (places-empty c.args.counts.now c.args.insts)

@@ -1,0 +1,7 @@
+pub mod Accesses
+pub mod Consistent
+pub mod Settled
+pub mod Changes
+pub mod Filled
+pub mod Entering
+pub mod Built

@@ -1,0 +1,12 @@
+// Laws of annotated texts. Each is the contract of a function that does nothing.
+ghost use Rattle.std.specs.Prelude.{◌≡◌, List, ℕ};
+ghost use Rattle.ms_ir.specs.Func.{FuncState};
+ghost use Rattle.ms_ir.specs.Symbols.{NamesState};
+ghost use Rattle.ms_session.specs.Annotated.{IsNearest};
+
+/// A function has one annotated text at most.
+pub fn one_nearest()
+    ensures { (names : NamesState) (f : FuncState) (t u : List ℕ) → IsNearest names f t → IsNearest names f u → t ≡ u }
+{
+    ms_paths::one_answer();
+}

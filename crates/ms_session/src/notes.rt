@@ -1,0 +1,94 @@
+// The annotations of a function.
+ghost use Rattle.std.specs.Prelude.{◌≡◌, ◌<◌, ◌≤◌, [], ℕ, length, Some, slice_get, IfOk, OnOk};
+ghost use Rattle.ms_paths.specs.Flow.{IsClosed};
+ghost use Rattle.ms_ir.specs.Inst.{kind_of_inst};
+ghost use Rattle.ms_ir.specs.Func.{Placed, insts_at};
+ghost use Rattle.ms_flow.specs.Table.{edges_of};
+ghost use Rattle.ms_build.specs.Accesses.{defining_at};
+ghost use Rattle.ms_build.specs.Built.{IsFormOf};
+ghost use Rattle.ms_print.specs.Text.{note_at};
+ghost use Rattle.ms_session.specs.Annotated.{IsNearest};
+ghost use Rattle.ms_session.specs.Shown.{named_note, shown_phi, with_line};
+
+use crate::lines::{inst_line, phi_line};
+use crate::numbers::{Numbers, number_all};
+use ms_flow::Flow;
+use ms_form::Form;
+use ms_ir::{BlockNo, Func, InstNo, Name, Names, NoMemory, Text};
+use ms_print::{Note, NoteList, Notes, block_labels, print_func};
+use std::alloc::Global;
+
+// A line behind the others, if there is one.
+fn push_line(notes: &mut NoteList, at: u32, line: Option<Text>) -> Result<(), NoMemory>
+    ensures { OnOk result (notes.new ≡ with_line notes.old at line) }
+{
+    if let Some(line) = line {
+        notes.push(Note { at, line })?;
+    }
+    Ok(())
+}
+
+// The lines at blocks.
+fn phi_notes(
+    alloc: Global,
+    labels: &[Name],
+    numbers: &Numbers,
+    flow: &Flow,
+    form: &Form,
+) -> Result<NoteList, NoMemory>
+    ensures { IfOk result (λ notes. (b : ℕ) → b < length flow.now.graph →
+        note_at notes b ≡ shown_phi labels.now numbers.now.all flow.now.graph form.now b) }
+{
+    let mut notes = NoteList::new(alloc);
+    for b in 0..flow.block_count() {
+        let line = phi_line(alloc, labels, numbers, flow, form, BlockNo(b))?;
+        push_line(&mut notes, b, line)?;
+    }
+    Ok(notes)
+}
+
+// The lines before instructions, in rising order of their numbers.
+fn inst_notes(
+    alloc: Global,
+    numbers: &Numbers,
+    func: &Func,
+    form: &Form,
+) -> Result<NoteList, NoMemory>
+    ensures { IfOk result (λ notes. (b k : ℕ) (x : Placed) → slice_get (insts_at func.now.blocks b) k ≡ Some x →
+        note_at notes x.number ≡ named_note numbers.now.all (defining_at form.now x.number) x.number (kind_of_inst x.inst)) }
+{
+    func.numbered();
+    let mut notes = NoteList::new(alloc);
+    for i in 0..func.made() {
+        let line = inst_line(alloc, func, form, numbers, InstNo(i))?;
+        push_line(&mut notes, i, line)?;
+    }
+    Ok(notes)
+}
+
+/// The text of a function with its annotations, by its flow graph and its form. It takes time in the function's size.
+pub fn annotated(
+    alloc: Global,
+    names: &Names,
+    func: &Func,
+    flow: &Flow,
+    form: &Form,
+) -> Result<Text, NoMemory>
+    requires graph { flow.now.graph ≡ edges_of func.now.blocks }
+    requires closed { IsClosed flow.now.graph }
+    requires form { IsFormOf func.now form.now }
+    ensures { IfOk result (λ text. IsNearest names.now func.now text) }
+{
+    func.numbered();
+    ms_paths::one_answer();
+    ms_flow::same_paths();
+    ms_flow::order_told();
+    ms_flow::sources_told();
+    let numbers = number_all(alloc, func, flow, form)?;
+    let labels = block_labels(alloc, func)?;
+    let notes = Notes {
+        phis: phi_notes(alloc, labels.as_slice(), &numbers, flow, form)?,
+        insts: inst_notes(alloc, &numbers, func, form)?,
+    };
+    Ok(print_func(alloc, func, names, &notes)?)
+}
