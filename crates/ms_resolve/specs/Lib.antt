@@ -1,0 +1,14 @@
+pub mod Cause
+pub mod Faults
+pub mod Made
+pub mod Module
+pub mod Scope
+pub mod Shape
+pub mod Used
+pub mod Meaning
+pub mod Places
+pub mod Draft
+pub mod Uses
+pub mod Build
+pub mod Reader
+pub mod Context

@@ -1,0 +1,430 @@
+// Values, instructions and terminators under their names.
+ghost use Rattle.std.specs.Prelude.{◌≡◌, ◌&&◌, ◌++◌, ◌∷◌, [], map, drop, slice_index_or, IfOk};
+ghost use Rattle.ms_ir.specs.declared.names.Name.TheVariants.{Absent};
+ghost use Rattle.ms_attrs.specs.Effects.{both};
+ghost use Rattle.ms_attrs.specs.Memory.{everything};
+ghost use Rattle.ms_grammar.specs.Parts.{behind_blank};
+ghost use Rattle.ms_grammar.specs.Form.{name_text};
+ghost use Rattle.ms_resolve.specs.Meaning.{keeps_in};
+ghost use Rattle.ms_resolve.specs.Scope.{or_first, value_of, block_of, is_pointer, arg_of, args_of, entry_of, keeps_at, marks_of, sig_of, effects_of_sig, number_of_word, inst_of, given_of, term_of, params_from};
+ghost use Rattle.ms_resolve.specs.Reader.{scope_by};
+ghost use Rattle.ms_resolve.specs.Build.{result_name};
+
+use crate::meaning::{effects_of, keeps_of};
+use crate::register::{Register, makes};
+use crate::symbols::Symbols;
+use crate::uses::symbol_place;
+use ms_grammar::{RawArg, RawEntry, RawInst, RawTerm, RawVal};
+use ms_ir::{
+    Arg, Args, BlockNo, Effects, Entries, Entry, FuncNo, GlobalNo, Groups, Inst, Items, LocalNo,
+    Mark, Name, NoMemory, Param, Params, Sig, Term, Text, Ty, Val,
+};
+use std::alloc::Global;
+
+// What a function's lines are read under.
+#[derive(Drop)]
+pub(crate) struct Reader<'s, 'a> {
+    pub(crate) alloc: Global,
+    pub(crate) register: &'s Register<'a>,
+    pub(crate) symbols: &'s Symbols<'a>,
+    pub(crate) sigs: &'s Items<Sig>,
+    pub(crate) groups: &'s Groups,
+}
+
+pub(crate) fn copy(alloc: Global, text: &Text) -> Result<Text, NoMemory>
+    ensures { IfOk result (λ t. t ≡ text.now) }
+{
+    Ok(Text::from_bytes(alloc, text.bytes())?)
+}
+
+fn copy_name(alloc: Global, name: &Name) -> Result<Name, NoMemory>
+    ensures { IfOk result (λ n. n ≡ name.now) }
+{
+    match name {
+        Name::Word(text) => Ok(Name::Word(copy(alloc, text)?)),
+        Name::Number(n) => Ok(Name::Number(*n)),
+        Name::Absent => Ok(Name::Absent),
+    }
+}
+
+pub(crate) fn name_at(alloc: Global, names: &[Name], at: u64) -> Result<Name, NoMemory>
+    ensures { IfOk result (λ n. n ≡ slice_index_or names.now at Absent) }
+{
+    let at = at as usize;
+    if at < names.len() {
+        return Ok(copy_name(alloc, &names[at])?);
+    }
+    Ok(Name::Absent)
+}
+
+fn or_first(place: Option<u64>) -> u64
+    ensures { result ≡ or_first place }
+{
+    match place {
+        Some(at) => at,
+        None => 0,
+    }
+}
+
+// Places fit, where there is memory for all that stands before them.
+fn small(place: Option<u64>) -> Result<u32, NoMemory>
+    ensures { IfOk result (λ n. n ≡ or_first place) }
+{
+    let at = or_first(place);
+    if at >= 1 << 32 {
+        return Err(NoMemory);
+    }
+    Ok(at as u32)
+}
+
+// What is kept behind the arguments of a call.
+fn ends(alloc: Global, post: &Text, tail: &Text) -> Result<Text, NoMemory>
+    ensures { IfOk result (λ t. t ≡ behind_blank post.now ++ tail.now) }
+{
+    let bytes = post.bytes();
+    if bytes.is_empty() {
+        return Ok(copy(alloc, tail)?);
+    }
+    let mut out = Vec::new(alloc);
+    out.push(b' ')?;
+    out.extend_from_slice(bytes)?;
+    out.extend_from_slice(tail.bytes())?;
+    Ok(Text::from_vec(out))
+}
+
+// Whether a pointer is kept, where the callee's line leaves it open or not.
+pub(crate) fn keeps_under(alloc: Global, ty: Ty, text: &Text, lets: bool) -> Result<bool, NoMemory>
+    ensures { IfOk result (λ k. k ≡ (is_pointer ty && (keeps_in text.now && lets))) }
+{
+    match ty {
+        Ty::Ptr => {
+            let keeps = keeps_of(alloc, text)?;
+            Ok(keeps && lets)
+        }
+        _ => Ok(false),
+    }
+}
+
+// What a function's line leaves open of the argument at a place.
+fn keeps_at(marks: &[Mark], at: usize) -> bool
+    ensures { result ≡ keeps_at (drop at marks.now) }
+{
+    match &marks[at.min(marks.len())..] {
+        [mark, ..] => mark.keeps,
+        [] => true,
+    }
+}
+
+fn all_flags() -> Effects
+    ensures { result ≡ everything }
+{
+    Effects {
+        arg_read: true,
+        arg_write: true,
+        other_read: true,
+        other_write: true,
+        hidden_read: true,
+        hidden_write: true,
+    }
+}
+
+fn in_both(a: Effects, b: Effects) -> Effects
+    ensures { result ≡ both a b }
+{
+    Effects {
+        arg_read: a.arg_read && b.arg_read,
+        arg_write: a.arg_write && b.arg_write,
+        other_read: a.other_read && b.other_read,
+        other_write: a.other_write && b.other_write,
+        hidden_read: a.hidden_read && b.hidden_read,
+        hidden_write: a.hidden_write && b.hidden_write,
+    }
+}
+
+impl<'s, 'a> Reader<'s, 'a> {
+    fn value(&self, val: &RawVal) -> Result<Val, NoMemory>
+        ensures { IfOk result (λ v. v ≡ value_of (scope_by self.now) val.now) }
+    {
+        match val {
+            RawVal::Num(ty, n) => Ok(Val::Num(*ty, *n)),
+            RawVal::Local(name) => Ok(Val::Local(LocalNo(or_first(
+                self.register.locals.find(name),
+            )))),
+            RawVal::Global(name) => Ok(Val::Global(GlobalNo(small(symbol_place(
+                &self.symbols.globals,
+                name,
+            ))?))),
+        }
+    }
+
+    fn block(&self, name: &Name) -> Result<BlockNo, NoMemory>
+        ensures { IfOk result (λ b. b ≡ block_of (scope_by self.now) name.now) }
+    {
+        Ok(BlockNo(small(self.register.blocks.find(name))?))
+    }
+
+    fn arg(&self, lets: bool, arg: &RawArg) -> Result<Arg, NoMemory>
+        ensures { IfOk result (λ a. a ≡ arg_of (scope_by self.now) lets arg.now) }
+    {
+        Ok(Arg {
+            ty: arg.ty,
+            val: self.value(&arg.val)?,
+            keeps: keeps_under(self.alloc, arg.ty, &arg.text, lets)?,
+            text: copy(self.alloc, &arg.text)?,
+        })
+    }
+
+    fn args(&self, marks: &[Mark], args: &[RawArg]) -> Result<Args, NoMemory>
+        ensures { IfOk result (λ r. r ≡ args_of (scope_by self.now) marks.now args.now) }
+    {
+        let mut all = Args::new(self.alloc);
+        for (at, arg) in args.iter().enumerate() {
+            all.push(self.arg(keeps_at(marks, at), arg)?)?;
+        }
+        Ok(all)
+    }
+
+    fn entry(&self, entry: &RawEntry) -> Result<Entry, NoMemory>
+        ensures { IfOk result (λ e. e ≡ entry_of (scope_by self.now) entry.now) }
+    {
+        Ok(Entry {
+            val: self.value(&entry.val)?,
+            from: self.block(&entry.from)?,
+        })
+    }
+
+    fn entries(&self, entries: &[RawEntry]) -> Result<Entries, NoMemory>
+        ensures { IfOk result (λ r. r ≡ map (entry_of (scope_by self.now)) entries.now) }
+    {
+        let mut all = Entries::new(self.alloc);
+        for entry in entries {
+            all.push(self.entry(entry)?)?;
+        }
+        Ok(all)
+    }
+
+    // What the line of a function says of its parameters.
+    fn marks_at(&self, f: u32) -> &[Mark]
+        ensures { result.now ≡ marks_of (sig_of (scope_by self.now) f) }
+    {
+        match self.sigs.get(f as usize) {
+            Some(sig) => sig.params.as_slice(),
+            None => &[],
+        }
+    }
+
+    fn effects_at(&self, f: u32) -> Effects
+        ensures { result ≡ effects_of_sig (sig_of (scope_by self.now) f) }
+    {
+        match self.sigs.get(f as usize) {
+            Some(sig) => sig.effects,
+            None => all_flags(),
+        }
+    }
+
+    fn func(&self, callee: &Name) -> Result<u32, NoMemory>
+        ensures { IfOk result (λ f. f ≡ number_of_word (scope_by self.now).funcs (name_text callee.now)) }
+    {
+        Ok(small(symbol_place(&self.symbols.funcs, callee))?)
+    }
+
+    fn call(
+        &self,
+        callee: &Name,
+        ret: Option<Ty>,
+        args: &[RawArg],
+        head: &Text,
+        post: &Text,
+        tail: &Text,
+    ) -> Result<Inst, NoMemory>
+        ensures { IfOk result (λ i. i ≡ inst_of (scope_by self.now) (RawInst.Call callee.now ret args.now head.now post.now tail.now)) }
+    {
+        let f = self.func(callee)?;
+        let own = effects_of(self.alloc, post, self.groups)?;
+        Ok(Inst::Call {
+            callee: FuncNo(f),
+            ret,
+            args: self.args(self.marks_at(f), args)?,
+            effects: in_both(own, self.effects_at(f)),
+            head: copy(self.alloc, head)?,
+            tail: ends(self.alloc, post, tail)?,
+        })
+    }
+
+    pub(crate) fn inst(&self, inst: &RawInst) -> Result<Inst, NoMemory>
+        ensures { IfOk result (λ i. i ≡ inst_of (scope_by self.now) inst.now) }
+    {
+        match inst {
+            RawInst::Alloca { size, head, tail } => Ok(Inst::Alloca {
+                size: *size,
+                head: copy(self.alloc, head)?,
+                tail: copy(self.alloc, tail)?,
+            }),
+            RawInst::Gep {
+                base,
+                offset,
+                head,
+                index,
+                tail,
+            } => Ok(Inst::Gep {
+                base: self.value(base)?,
+                offset: *offset,
+                head: copy(self.alloc, head)?,
+                index: copy(self.alloc, index)?,
+                tail: copy(self.alloc, tail)?,
+            }),
+            RawInst::Load { ty, ptr, tail } => Ok(Inst::Load {
+                ty: *ty,
+                ptr: self.value(ptr)?,
+                tail: copy(self.alloc, tail)?,
+            }),
+            RawInst::Store { ty, val, ptr, tail } => Ok(Inst::Store {
+                ty: *ty,
+                val: self.value(val)?,
+                ptr: self.value(ptr)?,
+                tail: copy(self.alloc, tail)?,
+            }),
+            RawInst::Copy {
+                to,
+                from,
+                len,
+                head,
+                post,
+                tail,
+            } => Ok(Inst::Copy {
+                to: self.arg(false, to)?,
+                from: self.arg(false, from)?,
+                len: *len,
+                head: copy(self.alloc, head)?,
+                tail: ends(self.alloc, post, tail)?,
+            }),
+            RawInst::Call {
+                callee,
+                ret,
+                args,
+                head,
+                post,
+                tail,
+            } => Ok(self.call(callee, *ret, args.as_slice(), head, post, tail)?),
+            RawInst::Bin {
+                op,
+                flags,
+                ty,
+                a,
+                b,
+                tail,
+            } => Ok(Inst::Bin {
+                op: *op,
+                flags: *flags,
+                ty: *ty,
+                a: self.value(a)?,
+                b: self.value(b)?,
+                tail: copy(self.alloc, tail)?,
+            }),
+            RawInst::Cmp {
+                pred,
+                flags,
+                ty,
+                a,
+                b,
+                tail,
+            } => Ok(Inst::Cmp {
+                pred: *pred,
+                flags: *flags,
+                ty: *ty,
+                a: self.value(a)?,
+                b: self.value(b)?,
+                tail: copy(self.alloc, tail)?,
+            }),
+            RawInst::Select {
+                cond,
+                ty,
+                a,
+                b,
+                tail,
+            } => Ok(Inst::Select {
+                cond: self.value(cond)?,
+                ty: *ty,
+                a: self.value(a)?,
+                b: self.value(b)?,
+                tail: copy(self.alloc, tail)?,
+            }),
+            RawInst::Cast {
+                op,
+                flags,
+                from,
+                a,
+                to,
+                tail,
+            } => Ok(Inst::Cast {
+                op: *op,
+                flags: *flags,
+                from: *from,
+                a: self.value(a)?,
+                to: *to,
+                tail: copy(self.alloc, tail)?,
+            }),
+            RawInst::Phi { ty, entries, tail } => Ok(Inst::Phi {
+                ty: *ty,
+                entries: self.entries(entries.as_slice())?,
+                tail: copy(self.alloc, tail)?,
+            }),
+        }
+    }
+
+    fn given(&self, given: &Option<(Ty, RawVal)>) -> Result<Option<(Ty, Val)>, NoMemory>
+        ensures { IfOk result (λ g. g ≡ given_of (scope_by self.now) given.now) }
+    {
+        match given {
+            Some(given) => Ok(Some((given.0, self.value(&given.1)?))),
+            None => Ok(None),
+        }
+    }
+
+    pub(crate) fn term(&self, term: &RawTerm) -> Result<Term, NoMemory>
+        ensures { IfOk result (λ t. t ≡ term_of (scope_by self.now) term.now) }
+    {
+        match term {
+            RawTerm::Br(to, tail) => Ok(Term::Br(self.block(to)?, copy(self.alloc, tail)?)),
+            RawTerm::CondBr(cond, if_true, if_false, tail) => Ok(Term::CondBr(
+                self.value(cond)?,
+                self.block(if_true)?,
+                self.block(if_false)?,
+                copy(self.alloc, tail)?,
+            )),
+            RawTerm::Ret(given, tail) => Ok(Term::Ret(self.given(given)?, copy(self.alloc, tail)?)),
+            RawTerm::Unreachable(tail) => Ok(Term::Unreachable(copy(self.alloc, tail)?)),
+        }
+    }
+
+    // The name of an instruction's result, where this is the next local.
+    pub(crate) fn result_name(&self, inst: &RawInst, next: u64) -> Result<Name, NoMemory>
+        ensures { IfOk result (λ n. n ≡ result_name (scope_by self.now) inst.now next) }
+    {
+        if makes(inst) {
+            return Ok(name_at(self.alloc, self.register.locals.names(), next)?);
+        }
+        Ok(Name::Absent)
+    }
+
+    fn param(&self, at: usize, param: &Param) -> Result<Param, NoMemory>
+        ensures { IfOk result (λ p. p ≡ record param.now { name = slice_index_or (scope_by self.now).locals at Absent }) }
+    {
+        Ok(Param {
+            ty: param.ty,
+            text: copy(self.alloc, &param.text)?,
+            name: name_at(self.alloc, self.register.locals.names(), at as u64)?,
+        })
+    }
+
+    // The parameters with the names that they get.
+    pub(crate) fn params(&self, params: &[Param]) -> Result<Params, NoMemory>
+        ensures { IfOk result (λ r. r ≡ params_from (scope_by self.now) 0 params.now) }
+    {
+        let mut all = Params::new(self.alloc);
+        for (at, param) in params.iter().enumerate() {
+            all.push(self.param(at, param)?)?;
+        }
+        Ok(all)
+    }
+}
