@@ -1,0 +1,7 @@
+mod Causes
+mod FormLemmas
+mod Heads
+mod OneShape
+mod Opened
+mod Room
+mod Shapes
