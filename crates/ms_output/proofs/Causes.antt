@@ -1,5 +1,5 @@
 -- A draft is accepted as one module up to the room of its functions, or refused for one cause.
-use Rattle.std.proofs.Common.{◌≡◌, ◌≢◌, ◌⊎◌, inl, inr, ⊎_elim, ◌<◌, ℕ, zero, suc, ◌+◌, Bool, List, [], ◌∷◌, ◌++◌, refl, sym, ap, subst, ◌∙◌, arith}
+use Rattle.std.proofs.Common.{◌≡◌, ◌≢◌, ◌⊎◌, inl, inr, ⊎_elim, ◌<◌, ℕ, zero, suc, ◌+◌, Bool, List, [], ◌∷◌, ◌++◌, Option, Some, None, refl, sym, ap, subst, ◌∙◌, arith}
 use Rattle.std.specs.Prelude.{if◌then◌else◌}
 use mathlib.Core.Path.{fun_ext}
 use Rattle.ms_grammar.specs.declared.line.Line.{Line}
@@ -17,30 +17,28 @@ use Rattle.ms_valid.specs.Faults.{bodies_there, HasTypeFault, HasEdgeFault, HasO
 use Rattle.ms_valid.specs.Cause.{IsLeast, HasNone, IsNamed, IsAccepted, IsValidCause}
 use Rattle.ms_valid.specs.declared.fault.ValidFault.{ValidFault}
 use Rattle.ms_valid.specs.declared.fault.ValidFault.TheVariants as valid
-use Rattle.ms_output.specs.Words.{Asked}
 use Rattle.ms_output.specs.Forms.{IsForm, AreForms, times, form_text, IsWrittenOf}
-use Rattle.ms_output.specs.Job.{refused, valid_status}
-use Rattle.ms_output.specs.declared.status.Refusal.{Refusal}
-use Rattle.ms_output.specs.declared.status.Status.{Status}
-use Rattle.ms_output.specs.declared.status.Status.TheVariants.{Refused, Memory}
+use Rattle.ms_output.specs.Output.{refusal_at, valid_refusal}
+use Rattle.ms_output.specs.declared.refusal.Refusal.{Refusal}
+use Rattle.ms_output.specs.declared.wanted.Wanted.{Wanted}
 use Rattle.ms_output.proofs.OneShape.{one_shape}
 use Rattle.ms_output.proofs.Room.{module_with, text_same, forms_moved, type_moved, edge_moved, order_moved, loop_moved}
 
 -- what the attributes of a module mean
-effects_under : List ItemLines → List ℕ → Effects
+abbrev effects_under : List ItemLines → List ℕ → Effects
 effects_under items post = (some_effects post (groups_of items)).0
 
-keeps_under : List ℕ → Bool
+abbrev keeps_under : List ℕ → Bool
 keeps_under attrs = (some_keeps attrs).0
 
 abbrev meant : List ItemLines → (List ℕ → Effects) × (List ℕ → Bool)
 meant items = (effects_under items, keeps_under)
 
-no_room : List ℕ → ℕ
+abbrev no_room : List ℕ → ℕ
 no_room name = 0
 
 -- the module of these items, without room
-canon : List ItemLines → ModuleState
+abbrev canon : List ItemLines → ModuleState
 canon items = module_with (meant items) no_room items
 
 module_is : (items : List ItemLines) (m : ModuleState) (w : IsModuleOf items m) → m ≡ module_with (meant items) w.spare items
@@ -60,7 +58,7 @@ trichotomy (suc a) (suc b) =
     (λ (o : (a ≡ b) ⊎ (b < a)). ⊎_elim (λ (e : a ≡ b). inr (inl (ap suc e))) (λ (g : b < a). inr (inr (omega (arith, g)))) o)
     (trichotomy a b)
 
-refusal_is : (number place : ℕ) (r : Refusal) → refused number place ≡ Refused r → record { number = number; place = place } ≡ r
+refusal_is : (number place : ℕ) (r : Refusal) → refusal_at number place ≡ Some r → record { number = number; place = place } ≡ r
 refusal_is number place r e = cc
 
 -- ---- the phases, in their order
@@ -151,10 +149,13 @@ record HasFirst (draft : List (ℕ × Line)) (r : Refusal) : Type 0 where
   number_is : 3 + phase ≡ r.number
   first : IsFirst items phase r.place
 
-number_of : Refusal → ℕ
+abbrev make_refusal : ℕ → ℕ → Refusal
+make_refusal number place = record { number = number; place = place }
+
+abbrev number_of : Refusal → ℕ
 number_of r = r.number
 
-place_of : Refusal → ℕ
+abbrev place_of : Refusal → ℕ
 place_of r = r.place
 
 made : (draft : List (ℕ × Line)) (phase place : ℕ) (r : Refusal) → record { number = 3 + phase; place = place } ≡ r → (items : List ItemLines) → IsShape draft items → IsFirst items phase place → HasFirst draft r
@@ -166,7 +167,7 @@ made draft phase place r e items shape first = record {
   first = subst (λ (k : ℕ). IsFirst items phase k) (ap place_of e) first;
 }
 
-first_of : (draft : List (ℕ × Line)) (fault : ValidFault) (r : Refusal) → IsValidCause draft fault → valid_status fault ≡ Refused r → HasFirst draft r
+first_of : (draft : List (ℕ × Line)) (fault : ValidFault) (r : Refusal) → IsValidCause draft fault → valid_refusal fault ≡ Some r → HasFirst draft r
 first_of draft (valid.Name n) r c e =
     made draft 0 n r (refusal_is 3 n r e) c.items c.shape (record {
       has = c.fault;
@@ -197,9 +198,9 @@ first_of draft (valid.Irreducible f) r c e =
       least = λ k lt h. c.irreducible.least k lt (loop_of c.items c.m c.named.whole k h);
       before = clean_loops c.named c.types c.edges c.order;
     })
-first_of draft valid.Memory r c e = let k : Memory ≡ Refused r = e in absurd (cc)
+first_of draft valid.Memory r c e = let k : None ≡ Some r = e in absurd (cc)
 
-pub one_fault : (draft : List (ℕ × Line)) (f g : ValidFault) (r s : Refusal) → IsValidCause draft f → IsValidCause draft g → valid_status f ≡ Refused r → valid_status g ≡ Refused s → r ≡ s
+pub one_fault : (draft : List (ℕ × Line)) (f g : ValidFault) (r s : Refusal) → IsValidCause draft f → IsValidCause draft g → valid_refusal f ≡ Some r → valid_refusal g ≡ Some s → r ≡ s
 one_fault draft f g r s p q a b =
     let x = first_of draft f r p a in
     let y = first_of draft g s q b in
@@ -217,7 +218,7 @@ accepted_clean draft m a (suc (suc (suc zero))) n h = a.order n (order_of a.item
 accepted_clean draft m a (suc (suc (suc (suc zero)))) n h = a.reducible n (loop_of a.items m a.named.whole n h)
 accepted_clean draft m a (suc (suc (suc (suc (suc _))))) n h = h
 
-pub not_accepted : (draft : List (ℕ × Line)) (m : ModuleState) (f : ValidFault) (r : Refusal) → IsAccepted draft m → IsValidCause draft f → valid_status f ≡ Refused r → ⊥
+pub not_accepted : (draft : List (ℕ × Line)) (m : ModuleState) (f : ValidFault) (r : Refusal) → IsAccepted draft m → IsValidCause draft f → valid_refusal f ≡ Some r → ⊥
 not_accepted draft m f r a c e =
     let x = first_of draft f r c e in
     let same = one_shape draft x.items a.items x.shape a.named.shape in
@@ -235,27 +236,27 @@ one_form notes names f t u p q = p.form_is ∙ ap (λ k. form_text f.name k) (no
 one_forms : IsAnnotatedOnce → (names : NamesState) (prints : ℕ) (fs : List FuncState) (t u : List ℕ) → AreForms names prints fs t → AreForms names prints fs u → t ≡ u
 one_forms notes names prints [] t u p q = p ∙ sym q
 one_forms notes names prints (f ∷ fs) t u p q =
-    let form = one_form notes names f p.0 q.0 p.1.1.0 q.1.1.0 in
-    let rest = one_forms notes names prints fs p.1.0 q.1.0 p.1.1.1.0 q.1.1.1.0 in
-    p.1.1.1.1 ∙ ap (λ k. times prints k ++ p.1.0) form ∙ ap (λ k. times prints q.0 ++ k) rest ∙ sym q.1.1.1.1
+    let form = one_form notes names f p.0 q.0 p.2 q.2 in
+    let rest = one_forms notes names prints fs p.1 q.1 p.3 q.3 in
+    p.4 ∙ ap (λ k. times prints k ++ p.1) form ∙ ap (λ k. times prints q.0 ++ k) rest ∙ sym q.4
 
 -- what is written for a module is written for the module without room
-unroomed : (asked : Asked) (items : List ItemLines) (m : ModuleState) (t : List ℕ) → IsModuleOf items m → IsWrittenOf asked m t → IsWrittenOf asked (canon items) t
-unroomed asked items m t w h =
-    let g = subst (λ (k : ModuleState). IsWrittenOf asked k t) (module_is items m w) h in
+unroomed : (wanted : Wanted) (items : List ItemLines) (m : ModuleState) (t : List ℕ) → IsModuleOf items m → IsWrittenOf wanted m t → IsWrittenOf wanted (canon items) t
+unroomed wanted items m t w h =
+    let g = subst (λ (k : ModuleState). IsWrittenOf wanted k t) (module_is items m w) h in
     record {
       forms = g.forms;
-      formed = forms_moved (meant items) w.spare no_room items asked.prints g.forms g.formed;
-      text_is = g.text_is ∙ ap (λ k. g.forms ++ (if asked.shows_module then k else [])) (text_same (meant items) w.spare no_room items);
+      formed = forms_moved (meant items) w.spare no_room items wanted.prints g.forms g.formed;
+      text_is = g.text_is ∙ ap (λ k. g.forms ++ (if wanted.shows_module then k else [])) (text_same (meant items) w.spare no_room items);
     }
 
-one_written : IsAnnotatedOnce → (asked : Asked) (m : ModuleState) (t u : List ℕ) → IsWrittenOf asked m t → IsWrittenOf asked m u → t ≡ u
-one_written notes asked m t u p q =
-    p.text_is ∙ ap (λ k. k ++ (if asked.shows_module then module_text m else [])) (one_forms notes m.names asked.prints (bodies_there m) p.forms q.forms p.formed q.formed) ∙ sym q.text_is
+one_written : IsAnnotatedOnce → (wanted : Wanted) (m : ModuleState) (t u : List ℕ) → IsWrittenOf wanted m t → IsWrittenOf wanted m u → t ≡ u
+one_written notes wanted m t u p q =
+    p.text_is ∙ ap (λ k. k ++ (if wanted.shows_module then module_text m else [])) (one_forms notes m.names wanted.prints (bodies_there m) p.forms q.forms p.formed q.formed) ∙ sym q.text_is
 
-pub one_text : IsAnnotatedOnce → (asked : Asked) (draft : List (ℕ × Line)) (m k : ModuleState) (t u : List ℕ)
-    → IsAccepted draft m → IsAccepted draft k → IsWrittenOf asked m t → IsWrittenOf asked k u → t ≡ u
-one_text notes asked draft m k t u a b p q =
+pub one_text : IsAnnotatedOnce → (wanted : Wanted) (draft : List (ℕ × Line)) (m k : ModuleState) (t u : List ℕ)
+    → IsAccepted draft m → IsAccepted draft k → IsWrittenOf wanted m t → IsWrittenOf wanted k u → t ≡ u
+one_text notes wanted draft m k t u a b p q =
     let same = one_shape draft b.items a.items b.named.shape a.named.shape in
-    one_written notes asked (canon a.items) t u (unroomed asked a.items m t a.named.whole p)
-    (subst (λ (x : List ItemLines). IsWrittenOf asked (canon x) u) same (unroomed asked b.items k u b.named.whole q))
+    one_written notes wanted (canon a.items) t u (unroomed wanted a.items m t a.named.whole p)
+    (subst (λ (x : List ItemLines). IsWrittenOf wanted (canon x) u) same (unroomed wanted b.items k u b.named.whole q))

@@ -14,7 +14,7 @@ use Rattle.ms_output.specs.Forms.{AreForms, times}
 pub forms_then : (names : NamesState) (prints : ℕ) (fs gs : List FuncState) (t u : List ℕ) → AreForms names prints fs t → AreForms names prints gs u → AreForms names prints (fs ++ gs) (t ++ u)
 forms_then names prints [] gs t u p q = subst (λ (k : List ℕ). AreForms names prints gs (k ++ u)) (sym p) q
 forms_then names prints (f ∷ fs) gs t u p q =
-    (p.0, p.1.0 ++ u, p.1.1.0, forms_then names prints fs gs p.1.0 u p.1.1.1.0 q, ap (λ k. k ++ u) p.1.1.1.1 ∙ append_assoc (times prints p.0) p.1.0 u)
+    (p.0, p.1 ++ u, p.2, forms_then names prints fs gs p.1 u p.3 q, ap (λ k. k ++ u) p.4 ∙ append_assoc (times prints p.0) p.1 u)
 
 abbrev front_bodies : ℕ → List (Option FuncState) → List FuncState
 front_bodies n bodies = flat_map body_there (take n bodies)
@@ -24,7 +24,8 @@ take_more [] n lt = absurd (omega (arith, lt))
 take_more (b ∷ bodies) zero lt = append-nil (body_there b)
 take_more (b ∷ bodies) (suc n) lt =
     let less : n < length bodies = omega (arith, lt) in
-    ap (λ k. body_there b ++ k) (take_more bodies n less) ∙ sym (append_assoc (body_there b) (front_bodies n bodies) (body_there (body_in (slice_get bodies n))))
+    let one : suc n + 1 ≡ suc (n + 1) = omega arith in
+    ap (λ (k : ℕ). front_bodies k (b ∷ bodies)) one ∙ ap (λ k. body_there b ++ k) (take_more bodies n less) ∙ sym (append_assoc (body_there b) (front_bodies n bodies) (body_there (body_in (slice_get bodies n))))
 
 -- the forms of the functions up to one, and its own
 pub forms_more : (m : ModuleState) (prints n : ℕ) (t u : List ℕ) → n < length m.bodies → AreForms m.names prints (front_bodies n m.bodies) t → AreForms m.names prints (body_there (body_of m n)) u

@@ -12,7 +12,7 @@ use Rattle.ms_resolve.specs.Scope.{Scope}
 use Rattle.ms_read.specs.Draft.{IsDraft}
 use Rattle.ms_valid.specs.Cause.{IsLoopCause}
 use Rattle.ms_output.specs.Funcs.{func_said, funcs_said}
-use Rattle.ms_output.specs.Job.{IsFuncIn}
+use Rattle.ms_output.specs.Output.{IsFuncIn}
 
 abbrev Lines : Type 0
 Lines = List (ℕ × Line)
@@ -83,10 +83,10 @@ found_is (y ∷ xs) zero x e = inner y x e
     inner a b e = cc
 found_is (y ∷ xs) (suc n) x e = found_is xs n x e
 
-funcs_of_module : ModuleState → List (List ℕ)
+abbrev funcs_of_module : ModuleState → List (List ℕ)
 funcs_of_module m = m.names.funcs
 
-bodies_of_module : ModuleState → List (Option FuncState)
+abbrev bodies_of_module : ModuleState → List (Option FuncState)
 bodies_of_module m = m.bodies
 
 -- the name that the lines give is that of the refused function

@@ -1,7 +1,8 @@
-mod Causes
-mod FormLemmas
-mod Heads
-mod OneShape
-mod Opened
-mod Room
-mod Shapes
+pub mod Causes
+pub mod FormLemmas
+pub mod Heads
+pub mod OneShape
+pub mod Opened
+pub mod Outputs
+pub mod Room
+pub mod Shapes

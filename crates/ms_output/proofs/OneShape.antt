@@ -14,7 +14,7 @@ abbrev Lines : Type 0
 Lines = List (ℕ × Line)
 
 -- what kind a line is, to tell lines apart
-kind_of : Line → ℕ
+abbrev kind_of : Line → ℕ
 kind_of said.Empty = 0
 kind_of said.Close = 1
 kind_of (said.Kept _) = 2
@@ -26,59 +26,59 @@ kind_of (said.Define _) = 4
 kind_of (said.Inst _ _) = 5
 kind_of (said.Term _) = 6
 
-kinds_of : Lines → ℕ
+abbrev kinds_of : Lines → ℕ
 kinds_of [] = 7
 kinds_of (entry ∷ _) = kind_of entry.1
 
-is_end : Lines → Bool
+abbrev is_end : Lines → Bool
 is_end [] = true
 is_end (_ ∷ _) = false
 
 first_kind : {a b : Lines} → a ≡ b → kinds_of a ≡ kinds_of b
 first_kind e = ap kinds_of e
 
-line_number : Lines → ℕ
+abbrev line_number : Lines → ℕ
 line_number [] = 0
 line_number (entry ∷ _) = entry.0
 
-behind_first : Lines → Lines
+abbrev behind_first : Lines → Lines
 behind_first [] = []
 behind_first (_ ∷ xs) = xs
 
-name_said : Name → Line → Name
+abbrev name_said : Name → Line → Name
 name_said d (said.Inst name _) = name
 name_said d (said.Label name) = name
 name_said d _ = d
 
-inst_said : RawInst → Line → RawInst
+abbrev inst_said : RawInst → Line → RawInst
 inst_said d (said.Inst _ i) = i
 inst_said d _ = d
 
-term_said : RawTerm → Line → RawTerm
+abbrev term_said : RawTerm → Line → RawTerm
 term_said d (said.Term t) = t
 term_said d _ = d
 
-head_said : Head → Line → Head
+abbrev head_said : Head → Line → Head
 head_said d (said.Define head) = head
 head_said d _ = d
 
-first_said : Line → Lines → Line
+abbrev first_said : Line → Lines → Line
 first_said d [] = d
 first_said d (entry ∷ _) = entry.1
 
-make_inst : ℕ → Name → RawInst → InstLine
+abbrev make_inst : ℕ → Name → RawInst → InstLine
 make_inst n name i = record { line = n; name = name; inst = i }
 
-make_term : ℕ → RawTerm → TermLine
+abbrev make_term : ℕ → RawTerm → TermLine
 make_term n t = record { line = n; term = t }
 
-make_label : ℕ → Name → LabelLine
+abbrev make_label : ℕ → Name → LabelLine
 make_label n name = record { line = n; name = name }
 
-make_block : Option LabelLine → List InstLine → TermLine → BlockLines
+abbrev make_block : Option LabelLine → List InstLine → TermLine → BlockLines
 make_block l insts end = record { label = l; insts = insts; end = end }
 
-make_func : ℕ → Head → List BlockLines → ℕ → FuncLines
+abbrev make_func : ℕ → Head → List BlockLines → ℕ → FuncLines
 make_func n head blocks close = record { line = n; head = head; blocks = blocks; close = close }
 
 same_inst : (x y : InstLine) (a b : Lines) → inst_line x ∷ a ≡ inst_line y ∷ b → (x ≡ y) × (a ≡ b)

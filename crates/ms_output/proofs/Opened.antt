@@ -64,16 +64,16 @@ abbrev HasCut : List Run → List ℕ → List ℕ → Type 0
 HasCut g hs xs = (h : ℕ) × Contains hs h × IsOnAll g h xs
 
 cut_or_not : (g : List Run) → IsClosed g → (hs xs : List ℕ) → ((h : ℕ) → Contains hs h → h < length g) → OrNot (HasCut g hs xs)
-cut_or_not g closed [] xs within = inr (λ (c : HasCut g [] xs). in_none c.0 c.1.0)
+cut_or_not g closed [] xs within = inr (λ (c : HasCut g [] xs). in_none c.0 c.1)
 cut_or_not g closed (k ∷ hs) xs within =
     ⊎_elim
     (λ (all : IsOnAll g k xs). inl (k, here_is k hs k refl, all))
     (λ (no : IsOnAll g k xs → ⊥). ⊎_elim
-    (λ (c : HasCut g hs xs). inl (c.0, there k hs c.0 c.1.0, c.1.1))
+    (λ (c : HasCut g hs xs). inl (c.0, there k hs c.0 c.1, c.2))
     (λ (none : HasCut g hs xs → ⊥). inr (λ (c : HasCut g (k ∷ hs) xs). ⊎_elim
-    (λ (e : k ≡ c.0). no (subst (λ (h : ℕ). IsOnAll g h xs) (sym e) c.1.1))
-    (λ (j : Contains hs c.0). none (c.0, j, c.1.1))
-    (in_cons k hs c.0 c.1.0)))
+    (λ (e : k ≡ c.0). no (subst (λ (h : ℕ). IsOnAll g h xs) (sym e) c.2))
+    (λ (j : Contains hs c.0). none (c.0, j, c.2))
+    (in_cons k hs c.0 c.1)))
     (cut_or_not g closed hs xs (λ h i. within h (there k hs h i))))
     (all_or_not g closed k (within k (here_is k hs k refl)) xs)
 
@@ -97,11 +97,11 @@ reducible_by g closed not_not = λ b c w reached walk.
 
 named_blocks : (next : ℕ) (ms : List Made) → length (filter (λ m. m.is_block) (named_from next ms)) ≡ length (filter (λ m. m.is_block) ms)
 named_blocks next [] = refl
-named_blocks next (m ∷ ms) = by_kind m.is_block (named_blocks (free_behind next m.name) ms)
+named_blocks next (m ∷ ms) = by_kind m.is_block _ _ _ _ (named_blocks (free_behind next m.name) ms)
   where
-    by_kind : (b : Bool) {x y : Made} {xs ys : List Made} → length xs ≡ length ys → length (if b then x ∷ xs else xs) ≡ length (if b then y ∷ ys else ys)
-    by_kind true e = ap suc e
-    by_kind false e = e
+    by_kind : (b : Bool) (x y : Made) (xs ys : List Made) → length xs ≡ length ys → length (if b then x ∷ xs else xs) ≡ length (if b then y ∷ ys else ys)
+    by_kind true x y xs ys e = ap suc e
+    by_kind false x y xs ys e = e
 
 params_first : (n : ℕ) (ps : List Param) (rest : List Made) → filter (λ m. m.is_block) (map (param_made n) ps ++ rest) ≡ filter (λ m. m.is_block) rest
 params_first n [] rest = refl
@@ -118,18 +118,16 @@ insts_first (x ∷ xs) rest = by_result (makes x.inst) (insts_first xs rest)
 
 blocks_made : (n : ℕ) (bs : List BlockLines) → length (filter (λ m. m.is_block) (flat_map (block_made n) bs)) ≡ length bs
 blocks_made n [] = refl
-blocks_made n (b ∷ bs) = by_label b.label
+blocks_made n (b ∷ bs) = by_label (ap length (insts_first b.insts (flat_map (block_made n) bs)) ∙ blocks_made n bs) b.label
   where
-    one : length (filter (λ m. m.is_block) (flat_map inst_made b.insts ++ flat_map (block_made n) bs)) ≡ length bs
-    one = ap length (insts_first b.insts (flat_map (block_made n) bs)) ∙ blocks_made n bs
-
-    by_label : (l : Option LabelLine) → length (filter (λ m. m.is_block) (label_made n l ∷ (flat_map inst_made b.insts ++ flat_map (block_made n) bs))) ≡ suc (length bs)
-    by_label None = ap suc one
-    by_label (Some l) = ap suc one
+    by_label : length (filter (λ m. m.is_block) (flat_map inst_made b.insts ++ flat_map (block_made n) bs)) ≡ length bs
+        → (l : Option LabelLine) → length (filter (λ m. m.is_block) (label_made n l ∷ (flat_map inst_made b.insts ++ flat_map (block_made n) bs))) ≡ suc (length bs)
+    by_label one None = ap suc one
+    by_label one (Some l) = ap suc one
 
 count_blocks : (f : FuncLines) → length (blocks_of f) ≡ length f.blocks
 count_blocks f =
-    length-map name_of_made (filter (λ m. m.is_block) (named_from 0 (made_in f))) ∙ named_blocks 0 (made_in f)
+    length-map (filter (λ m. m.is_block) (named_from 0 (made_in f))) name_of_made ∙ named_blocks 0 (made_in f)
     ∙ ap length (params_first f.line f.head.params (flat_map (block_made f.line) f.blocks)) ∙ blocks_made f.line f.blocks
 
 first_within : (p : Name → Bool) (names : List Name) → 0 < length names → (o : Option ℕ) → position p names ≡ o → or_first o < length names
@@ -174,7 +172,7 @@ func_closed s r f same h =
     }
 
 -- whether there is a body
-is_full : Option (Option FuncState) → Bool
+abbrev is_full : Option (Option FuncState) → Bool
 is_full o = is_some (body_in o)
 
 -- a body's lines
@@ -203,7 +201,7 @@ body_from scope spare (plain k (said.Define _) ∷ items) each n f e = body_from
 body_from scope spare (plain k (said.Inst _ _) ∷ items) each n f e = body_from scope spare items each.1 n f e
 body_from scope spare (plain k (said.Term _) ∷ items) each n f e = body_from scope spare items each.1 n f e
 
-bodies_of : ModuleState → List (Option FuncState)
+abbrev bodies_of : ModuleState → List (Option FuncState)
 bodies_of m = m.bodies
 
 pub open_of : (draft : List (ℕ × Line)) (m : ModuleState) → IsAccepted draft m → AreOpen m

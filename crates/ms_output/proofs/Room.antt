@@ -22,8 +22,7 @@ use Rattle.ms_resolve.specs.Module.{scope_of, bodies_in, module_of, names_of}
 use Rattle.ms_session.specs.Annotated.{IsNearest}
 use Rattle.ms_valid.specs.Faults.{body_there, bodies_there, IsBody, HasInst, HasTerm, CallsOtherwise, ReturnsOtherwise, HasTypeFaultIn, operand, func_operand, global_called, call, term_operand, func_returned, returned, HasEdgeFaultIn, branch, phi, HasOrderFaultIn, HasTypeFault, HasEdgeFault, HasOrderFault, IsIrreducible}
 use Rattle.ms_valid.specs.Faults as fault
-use Rattle.ms_output.specs.Words.{Asked}
-use Rattle.ms_output.specs.Forms.{IsForm, AreForms, IsWrittenOf}
+use Rattle.ms_output.specs.Forms.{IsForm, AreForms}
 
 abbrev Room : Type 0
 Room = List ℕ → ℕ
@@ -41,7 +40,7 @@ outer_same : (f g : FuncState) → Some f ≡ Some g → f ≡ g
 outer_same f g e = cc
 
 -- whether there is a body
-is_full : Option (Option FuncState) → Bool
+abbrev is_full : Option (Option FuncState) → Bool
 is_full o = is_some (body_in o)
 
 -- the function of a number, with another room
@@ -106,7 +105,7 @@ FormsOf names prints scope room items t = AreForms names prints (flat_map body_t
 forms_same : (names : NamesState) (prints : ℕ) (scope : FuncLines → Scope) (p q : Room) (items : List ItemLines) (t : List ℕ) → FormsOf names prints scope p items t → FormsOf names prints scope q items t
 forms_same names prints scope p q [] t h = h
 forms_same names prints scope p q (body lines ∷ items) t h =
-    (h.0, h.1.0, form_same names (scope lines) (p lines.head.name) (q lines.head.name) lines h.0 h.1.1.0, forms_same names prints scope p q items h.1.0 h.1.1.1.0, h.1.1.1.1)
+    (h.0, h.1, form_same names (scope lines) (p lines.head.name) (q lines.head.name) lines h.0 h.2, forms_same names prints scope p q items h.1 h.3, h.4)
 forms_same names prints scope p q (plain k (said.Declare head) ∷ items) t h = forms_same names prints scope p q items t h
 forms_same names prints scope p q (plain k said.Empty ∷ items) t h = forms_same names prints scope p q items t h
 forms_same names prints scope p q (plain k said.Close ∷ items) t h = forms_same names prints scope p q items t h

@@ -98,9 +98,9 @@ block_whole : (draft : Lines) (l : Option LabelLine) (r : InBlock draft) (front 
 block_whole draft l r front e =
     let one = block_lines (record { label = l; insts = r.insts; end = r.end }) in
     let more = flat_map block_lines r.rest.blocks in
-    let tail = (r.rest.close, said.Close) ∷ r.rest.tail in
+    let tail : Lines = (r.rest.close, said.Close) ∷ r.rest.tail in
     let here = map inst_line r.insts in
-    let end = (r.end.line, said.Term r.end.term) in
+    let end : ℕ × Line = (r.end.line, said.Term r.end.term) in
     ap (λ (x : Lines). front ++ x) (r.whole ∙ ap (λ (x : Lines). here ++ end ∷ x) r.rest.whole)
     ∙ moved front here end (more ++ tail) ∙ ap (λ (x : Lines). x ++ (more ++ tail)) e ∙ sym (append_assoc one more tail)
   where
@@ -247,7 +247,7 @@ remains : (at : Place) (draft : Lines) → Each (λ (entry : ℕ × Line). IsSai
 remains at [] each w = ended at w
 remains at (entry ∷ draft) each w =
     let sort = sort_of entry.1 in
-    step at entry.0 entry.1 draft each.0.some (on_place (next_place at sort) w.0 (λ (p : Place). Remains p draft) w.1.0 (remains w.0 draft each.1 w.1.1))
+    step at entry.0 entry.1 draft each.0.some (on_place (next_place at sort) w.0 (λ (p : Place). Remains p draft) w.1 (remains w.0 draft each.1 w.2))
 
 -- lines that may stand behind one another have a shape
 pub has_shape : (draft : List (ℕ × Line)) → Each (λ (entry : ℕ × Line). IsSaid entry.1) draft → Walk Outside (sorts_of draft) Outside → (items : List ItemLines) × IsShape draft items

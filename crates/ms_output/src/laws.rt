@@ -11,6 +11,5 @@ pub fn one_output()
     ensures apart { (wanted : Wanted) (bytes t : List ℕ) (r : Refusal) → IsOutput wanted bytes t → IsRefusal bytes r → ⊥ }
 {
     ms_read::one_draft();
-    ms_attrs::one_meaning();
     ms_session::one_nearest();
 }

@@ -2,16 +2,14 @@
 //! module's text; or the refusal of the bytes, with its number and place. A text has one output or one refusal.
 #![tactic(auto)]
 
-mod forms;
-mod funcs;
 mod laws;
+mod output;
 mod refusal;
-mod render;
 mod unwritten;
 mod wanted;
 
 pub use laws::one_output;
+pub use output::render;
 pub use refusal::Refusal;
-pub use render::render;
 pub use unwritten::Unwritten;
 pub use wanted::Wanted;
