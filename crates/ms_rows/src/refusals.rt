@@ -2,6 +2,7 @@
 use crate::row::{PRINT, expect, refused, run_on};
 use crate::texts::ONE_BLOCK;
 use ms_cli::Status;
+use std::alloc::{AllocError, Global};
 use std::test::Fail;
 
 const IRREDUCIBLE: &[u8] = b"define void @k(i1 %c, i1 %d) {
@@ -84,20 +85,29 @@ fn refused_modules(rt: HostRuntime) -> Result<(), Fail> {
     Ok(())
 }
 
+// A comment of so many bytes.
+fn comment(alloc: Global, length: usize) -> Result<Vec<u8>, AllocError> {
+    let mut text = vec![in alloc; b'x'; length]?;
+    if let Some(first) = text.first_mut() {
+        *first = b';';
+    }
+    Ok(text)
+}
+
 // A file that is cut off in a line, and a comment of the greatest length and of one byte more.
 #[test]
 fn cut_and_oversized_files(rt: HostRuntime) -> Result<(), Fail> {
     let alloc = rt.alloc();
-    let words: &[&str] = &[PRINT, "cut.ll"];
-    let cut = &ONE_BLOCK[..63];
-    let left = run_on(alloc, words, "cut.ll", cut)?;
+    let left = run_on(alloc, &[PRINT, "cut.ll"], "cut.ll", &ONE_BLOCK[..63])?;
     expect(&rt, &left, refused(1, 3), b"", b"mssa: cut.ll:3: refusal 1: not of the profile\n");
-    let mut comment = vec![in alloc; b'x'; 1_048_577]?;
-    comment[0] = b';';
-    let words: &[&str] = &[PRINT, "big.ll"];
-    let left = run_on(alloc, words, "big.ll", &comment[..1_048_576])?;
-    expect(&rt, &left, Status::Done, b"", b"");
-    let left = run_on(alloc, words, "big.ll", comment.as_slice())?;
-    expect(&rt, &left, refused(10, 0), b"", b"mssa: big.ll: refusal 10: longer than 1048576 bytes\n");
+    let rows: [(usize, Status, &[u8]); 2] = [
+        (1_048_576, Status::Done, b""),
+        (1_048_577, refused(10, 0), b"mssa: big.ll: refusal 10: longer than 1048576 bytes\n"),
+    ];
+    for (length, status, told) in rows {
+        let text = comment(alloc, length)?;
+        let left = run_on(alloc, &[PRINT, "big.ll"], "big.ll", text.as_slice())?;
+        expect(&rt, &left, status, b"", told);
+    }
     Ok(())
 }

@@ -70,12 +70,9 @@ fn lists_of_passes(rt: HostRuntime) -> Result<(), Fail> {
     for (list, count) in lists {
         let words: &[&str] = &[list, "--disable-output", "-"];
         let left = run_on(rt.alloc(), words, "-", ONE_BLOCK)?;
-        let mut forms = 0;
-        for form in left.out.bytes().chunks(ONE_BLOCK_FORM.len()) {
-            assert_eq!(rt; form, ONE_BLOCK_FORM);
-            forms += 1;
-        }
-        assert_eq!(rt; forms, count);
+        let out = left.out.bytes();
+        assert_eq!(rt; out.chunks(ONE_BLOCK_FORM.len()).count(), count);
+        assert!(rt; out.chunks(ONE_BLOCK_FORM.len()).all(|form| form == ONE_BLOCK_FORM));
         assert_eq!(rt; left.status, Status::Done);
     }
     Ok(())
