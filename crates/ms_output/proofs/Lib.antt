@@ -6,3 +6,4 @@ pub mod Opened
 pub mod Outputs
 pub mod Room
 pub mod Shapes
+pub mod Taken
