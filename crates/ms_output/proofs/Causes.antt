@@ -58,7 +58,7 @@ trichotomy (suc a) (suc b) =
     (λ (o : (a ≡ b) ⊎ (b < a)). ⊎_elim (λ (e : a ≡ b). inr (inl (ap suc e))) (λ (g : b < a). inr (inr (omega (arith, g)))) o)
     (trichotomy a b)
 
-refusal_is : (number place : ℕ) (r : Refusal) → refusal_at number place ≡ Some r → record { number = number; place = place } ≡ r
+pub refusal_is : (number place : ℕ) (r : Refusal) → refusal_at number place ≡ Some r → record { number = number; place = place } ≡ r
 refusal_is number place r e = cc
 
 -- ---- the phases, in their order
@@ -152,10 +152,10 @@ record HasFirst (draft : List (ℕ × Line)) (r : Refusal) : Type 0 where
 abbrev make_refusal : ℕ → ℕ → Refusal
 make_refusal number place = record { number = number; place = place }
 
-abbrev number_of : Refusal → ℕ
+abbrev pub number_of : Refusal → ℕ
 number_of r = r.number
 
-abbrev place_of : Refusal → ℕ
+abbrev pub place_of : Refusal → ℕ
 place_of r = r.place
 
 made : (draft : List (ℕ × Line)) (phase place : ℕ) (r : Refusal) → record { number = 3 + phase; place = place } ≡ r → (items : List ItemLines) → IsShape draft items → IsFirst items phase place → HasFirst draft r
