@@ -1,5 +1,5 @@
 -- What is told of a draft is told of the bytes that it was read from.
-use Rattle.std.proofs.Common.{◌≡◌, ℕ, List, [], inr, Some, Result, Ok, Err, sym, ap, subst, ◌∙◌, arith, slice_index_or}
+use Rattle.std.proofs.Common.{◌≡◌, ℕ, List, [], inr, Some, Result, Ok, Err, ap, subst, ◌∙◌, arith, slice_index_or}
 use Rattle.ms_grammar.specs.declared.line.Line.{Line}
 use Rattle.ms_read.specs.Draft.{IsDraft}
 use Rattle.ms_valid.specs.Cause.{IsValidCause, IsLoopCause}
@@ -34,7 +34,8 @@ func_told bytes draft valid.Memory r func read cause told seven name = absurd (c
 
 pub renders_by : (wanted : Wanted) (bytes : List ℕ) (draft : List (ℕ × Line)) (result : Result (List ℕ) Unwritten) → IsDraft bytes draft → RendersDraft wanted draft result → Renders wanted bytes result
 renders_by wanted bytes draft (Ok text) read h = record { draft = draft; m = h.m; read = read; accepted = h.accepted; written = h.written }
-renders_by wanted bytes draft (Err (Refused r func)) read h =
-    (inr (record { draft = draft; fault = h.fault; read = read; cause = h.cause; told = h.told.0 }),
-     λ seven. func_told bytes draft h.fault r func read h.cause h.told.0 seven (h.told.1 seven))
+renders_by wanted bytes draft (Err (Refused r func)) read h = (
+  inr (record { draft = draft; fault = h.fault; read = read; cause = h.cause; told = h.told.0 }),
+  λ seven. func_told bytes draft h.fault r func read h.cause h.told.0 seven (h.told.1 seven),
+)
 renders_by wanted bytes draft (Err Memory) read h = tt

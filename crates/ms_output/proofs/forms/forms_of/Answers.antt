@@ -1,4 +1,4 @@
-use Rattle.std.proofs.Common.{◌<◌, ◌≤◌, length, sym, subst, ◌∙◌, arith}
+use Rattle.std.proofs.Common.{sym, subst, ◌∙◌, arith}
 use Rattle.ms_ir.specs.Module.{ModuleState}
 use Rattle.ms_output.specs.Forms.{AreOpen}
 use Rattle.ms_output.proofs.FormLemmas.{front_more, front_all, sig_within, sig_past, few_funcs, same_count}
