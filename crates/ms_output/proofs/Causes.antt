@@ -1,5 +1,5 @@
 -- A draft is accepted as one module up to the room of its functions, or refused for one cause.
-use Rattle.std.proofs.Common.{◌≡◌, ◌≢◌, ◌⊎◌, inl, inr, ⊎_elim, ◌<◌, ℕ, zero, suc, ◌+◌, Bool, List, [], ◌∷◌, ◌++◌, Option, Some, None, refl, sym, ap, subst, ◌∙◌, arith}
+use Rattle.std.proofs.Common.{◌≡◌, ◌⊎◌, inl, inr, ⊎_elim, ◌<◌, ℕ, zero, suc, ◌+◌, Bool, List, [], ◌∷◌, ◌++◌, Some, None, refl, sym, ap, subst, ◌∙◌, arith}
 use Rattle.std.specs.Prelude.{if◌then◌else◌}
 use mathlib.Core.Path.{fun_ext}
 use Rattle.ms_grammar.specs.declared.line.Line.{Line}
@@ -11,10 +11,10 @@ use Rattle.ms_ir.specs.Symbols.{NamesState}
 use Rattle.ms_print.specs.Text.{module_text}
 use Rattle.ms_resolve.specs.Shape.{ItemLines, IsShape}
 use Rattle.ms_resolve.specs.Faults.{HasNameFault}
-use Rattle.ms_resolve.specs.Module.{groups_of, names_of, module_of, IsModuleOf}
+use Rattle.ms_resolve.specs.Module.{groups_of, module_of, IsModuleOf}
 use Rattle.ms_session.specs.Annotated.{IsNearest}
 use Rattle.ms_valid.specs.Faults.{bodies_there, HasTypeFault, HasEdgeFault, HasOrderFault, IsIrreducible}
-use Rattle.ms_valid.specs.Cause.{IsLeast, HasNone, IsNamed, IsAccepted, IsValidCause}
+use Rattle.ms_valid.specs.Cause.{HasNone, IsNamed, IsAccepted, IsValidCause}
 use Rattle.ms_valid.specs.declared.fault.ValidFault.{ValidFault}
 use Rattle.ms_valid.specs.declared.fault.ValidFault.TheVariants as valid
 use Rattle.ms_output.specs.Forms.{IsForm, AreForms, times, form_text, IsWrittenOf}
@@ -44,9 +44,9 @@ canon items = module_with (meant items) no_room items
 module_is : (items : List ItemLines) (m : ModuleState) (w : IsModuleOf items m) → m ≡ module_with (meant items) w.spare items
 module_is items m w =
     let effects : w.meaning.effects ≡ effects_under items =
-        fun_ext (λ post. one_effects post (groups_of items) (w.meaning.effects post) (effects_under items post) (w.meaning.effects_are post) (some_effects post (groups_of items)).1) in
+    fun_ext (λ post. one_effects post (groups_of items) (w.meaning.effects post) (effects_under items post) (w.meaning.effects_are post) (some_effects post (groups_of items)).1) in
     let keeps : w.meaning.keeps ≡ keeps_under =
-        fun_ext (λ attrs. one_keeps attrs (w.meaning.keeps attrs) (keeps_under attrs) (w.meaning.keeps_are attrs) (some_keeps attrs).1) in
+    fun_ext (λ attrs. one_keeps attrs (w.meaning.keeps attrs) (keeps_under attrs) (w.meaning.keeps_are attrs) (some_keeps attrs).1) in
     w.module_is ∙ ap (λ e. module_of e w.meaning.keeps w.spare items) effects ∙ ap (λ k. module_of (effects_under items) k w.spare items) keeps
 
 trichotomy : (a b : ℕ) → (a < b) ⊎ ((a ≡ b) ⊎ (b < a))
@@ -58,7 +58,7 @@ trichotomy (suc a) (suc b) =
     (λ (o : (a ≡ b) ⊎ (b < a)). ⊎_elim (λ (e : a ≡ b). inr (inl (ap suc e))) (λ (g : b < a). inr (inr (omega (arith, g)))) o)
     (trichotomy a b)
 
-refusal_is : (number place : ℕ) (r : Refusal) → refusal_at number place ≡ Some r → record { number = number; place = place } ≡ r
+pub refusal_is : (number place : ℕ) (r : Refusal) → refusal_at number place ≡ Some r → record { number = number; place = place } ≡ r
 refusal_is number place r e = cc
 
 -- ---- the phases, in their order
@@ -152,10 +152,10 @@ record HasFirst (draft : List (ℕ × Line)) (r : Refusal) : Type 0 where
 abbrev make_refusal : ℕ → ℕ → Refusal
 make_refusal number place = record { number = number; place = place }
 
-abbrev number_of : Refusal → ℕ
+abbrev pub number_of : Refusal → ℕ
 number_of r = r.number
 
-abbrev place_of : Refusal → ℕ
+abbrev pub place_of : Refusal → ℕ
 place_of r = r.place
 
 made : (draft : List (ℕ × Line)) (phase place : ℕ) (r : Refusal) → record { number = 3 + phase; place = place } ≡ r → (items : List ItemLines) → IsShape draft items → IsFirst items phase place → HasFirst draft r

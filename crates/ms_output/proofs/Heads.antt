@@ -1,17 +1,17 @@
 -- The functions that the lines of a draft name are those of its module.
-use Rattle.std.proofs.Common.{◌≡◌, ℕ, zero, suc, Bool, true, false, is_some, List, [], ◌∷◌, ◌++◌, Option, Some, None, refl, sym, ap, subst, ◌∙◌, append_assoc, map, slice_get, slice_index_or}
+use Rattle.std.proofs.Common.{◌≡◌, ℕ, zero, suc, true, false, is_some, List, [], ◌∷◌, ◌++◌, Option, Some, None, refl, sym, ap, ◌∙◌, append_assoc, map, slice_get, slice_index_or}
 use Rattle.std.specs.List.{flat_map}
 use Rattle.ms_grammar.specs.Kept.{Each}
 use Rattle.ms_grammar.specs.declared.line.Line.{Line}
 use Rattle.ms_grammar.specs.declared.line.Line.TheVariants as said
 use Rattle.ms_ir.specs.Func.{FuncState}
 use Rattle.ms_ir.specs.Module.{ModuleState}
-use Rattle.ms_resolve.specs.Shape.{LabelLine, InstLine, BlockLines, FuncLines, ItemLines, plain, body, label_lines, inst_line, block_lines, func_lines, item_lines, stands_outside, IsItem}
+use Rattle.ms_resolve.specs.Shape.{LabelLine, InstLine, BlockLines, FuncLines, ItemLines, plain, body, label_lines, inst_line, block_lines, func_lines, item_lines, IsItem}
 use Rattle.ms_resolve.specs.Module.{func_names_in, bodies_in, scope_of}
 use Rattle.ms_resolve.specs.Scope.{Scope}
 use Rattle.ms_read.specs.Draft.{IsDraft}
 use Rattle.ms_valid.specs.Cause.{IsLoopCause}
-use Rattle.ms_output.specs.Funcs.{func_said, funcs_said}
+use Rattle.ms_output.specs.Funcs.{funcs_said}
 use Rattle.ms_output.specs.Output.{IsFuncIn}
 
 abbrev Lines : Type 0
@@ -96,7 +96,7 @@ loop_func bytes draft n name read cause name_is =
     let whole = cause.named.whole in
     let body = cause.irreducible.has in
     let there = body_named (scope_of whole.meaning.effects whole.meaning.keeps items) whole.spare items n (Some body.f)
-        (ap (λ k. slice_get (bodies_of_module k) n) (sym whole.module_is) ∙ body.body) in
+    (ap (λ k. slice_get (bodies_of_module k) n) (sym whole.module_is) ∙ body.body) in
     let said_are : funcs_said draft ≡ flat_map func_names_in items = ap funcs_said cause.named.shape.lines ∙ funcs_are items cause.named.shape.each in
     let same : name ≡ there.0 = name_is ∙ ap (λ k. slice_index_or k n []) said_are ∙ found_is (flat_map func_names_in items) n there.0 there.1 in
     record {

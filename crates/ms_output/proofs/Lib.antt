@@ -4,5 +4,7 @@ pub mod Heads
 pub mod OneShape
 pub mod Opened
 pub mod Outputs
+pub mod Rendered
 pub mod Room
 pub mod Shapes
+pub mod Taken

@@ -1,12 +1,12 @@
 -- Each function of an accepted module may be opened: its terminators name its own blocks, and its loops are reducible.
-use Rattle.std.proofs.Common.{◌≡◌, ◌⊎◌, inl, inr, ⊎_elim, ◌<◌, ◌+◌, ℕ, zero, suc, Bool, true, false, List, [], ◌∷◌, ◌++◌, Option, Some, None, is_some, length, map, filter, position, not, eqb, nat_eq, refl, sym, ap, subst, ◌∙◌, arith, Contains, slice_get}
+use Rattle.std.proofs.Common.{◌≡◌, ◌⊎◌, inl, inr, ⊎_elim, ◌<◌, ◌+◌, ℕ, zero, suc, Bool, true, false, List, [], ◌∷◌, ◌++◌, Option, Some, None, is_some, length, map, filter, position, eqb, refl, sym, ap, subst, ◌∙◌, arith, Contains, slice_get}
 use Rattle.std.specs.Prelude.{if◌then◌else◌}
 use Rattle.std.proofs.lemmas.List.{length-map}
 use Rattle.std.specs.List.{flat_map}
 use Rattle.std.proofs.lemmas.Bool.{cases_Bool}
 use Rattle.std.proofs.lemmas.Bool.Decides.{nat_tests}
 use Rattle.std.proofs.lemmas.List.Quantifiers.{position-Some}
-use Rattle.ms_paths.specs.Flow.{Block as Run, HasEdge, IsReached, IsWalk, IsOnEveryPath, IsReducible, IsClosed}
+use Rattle.ms_paths.specs.Flow.{Block as Run, HasEdge, IsWalk, IsOnEveryPath, IsReducible, IsClosed}
 use Rattle.ms_flow.specs.Walk.{is_seen, without}
 use Rattle.ms_flow.proofs.Members.{here_is, there, in_none, in_cons}
 use Rattle.ms_flow.proofs.Paths.{cut_told}
@@ -25,7 +25,6 @@ use Rattle.ms_resolve.specs.Shape.{LabelLine, InstLine, BlockLines, FuncLines, I
 use Rattle.ms_resolve.specs.Made.{Made, makes, param_made, inst_made, label_made, block_made, made_in, named_from, free_behind, name_of_made, is_same_name, blocks_of}
 use Rattle.ms_resolve.specs.Scope.{Scope, or_first, number_of_name, term_of, locals_behind, blocks_from, func_of}
 use Rattle.ms_resolve.specs.Module.{scope_of, bodies_in}
-use Rattle.ms_valid.specs.Faults.{IsIrreducible}
 use Rattle.ms_valid.specs.Cause.{IsAccepted}
 use Rattle.ms_output.specs.Forms.{AreOpen}
 
@@ -210,5 +209,5 @@ open_of draft m a n f e =
     let scope = scope_of whole.meaning.effects whole.meaning.keeps a.items in
     let b = body_from scope whole.spare a.items a.named.shape.each n f (ap (λ k. slice_get (bodies_of k) n) (sym whole.module_is) ∙ e) in
     let closed : IsClosed (graph_of f.blocks) =
-        subst (λ (g : FuncState). IsClosed (graph_of g.blocks)) b.func_is (func_closed (scope b.lines) (whole.spare b.lines.head.name) b.lines refl b.some) in
+    subst (λ (g : FuncState). IsClosed (graph_of g.blocks)) b.func_is (func_closed (scope b.lines) (whole.spare b.lines.head.name) b.lines refl b.some) in
     (closed, reducible_by (graph_of f.blocks) closed (λ no. a.reducible n (record { f = f; body = e; irreducible = no })))

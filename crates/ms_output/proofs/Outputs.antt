@@ -1,11 +1,11 @@
 -- Bytes have one output or one refusal at most. The laws of reading and of annotated texts are premises here.
-use Rattle.std.proofs.Common.{◌≡◌, ◌≢◌, ℕ, List, inl, inr, Option, Some, None, sym, ap, subst, ◌∙◌}
+use Rattle.std.proofs.Common.{◌≡◌, ◌≢◌, ℕ, List, inl, inr, Some, None, sym, ap, subst, ◌∙◌}
 use Rattle.ms_grammar.specs.declared.line.Line.{Line}
 use Rattle.ms_read.specs.Draft.{IsDraft, IsModuleCause}
 use Rattle.ms_read.specs.declared.fault.ReadFault.{ReadFault}
 use Rattle.ms_read.specs.declared.fault.ReadFault.TheVariants as fault
 use Rattle.ms_valid.specs.Cause.{IsValidCause, IsAccepted}
-use Rattle.ms_output.specs.Output.{read_refusal, valid_refusal, IsUnread, IsInvalid, IsRefusal, IsOutput}
+use Rattle.ms_output.specs.Output.{read_refusal, IsUnread, IsInvalid, IsRefusal, IsOutput}
 use Rattle.ms_output.specs.declared.refusal.Refusal.{Refusal}
 use Rattle.ms_output.specs.declared.wanted.Wanted.{Wanted}
 use Rattle.ms_output.proofs.Causes.{IsAnnotatedOnce, one_fault, not_accepted, one_text}

@@ -1,5 +1,5 @@
 -- The lines of a draft are functions and lines outside them, since their sorts may stand behind one another.
-use Rattle.std.proofs.Common.{◌≡◌, ◌⊎◌, ℕ, Bool, true, false, List, [], ◌∷◌, ◌++◌, Option, Some, None, refl, sym, ap, subst, ◌∙◌, append_assoc, map}
+use Rattle.std.proofs.Common.{◌≡◌, ℕ, true, false, List, [], ◌∷◌, ◌++◌, Option, Some, None, refl, sym, ap, subst, ◌∙◌, append_assoc, map}
 use Rattle.std.specs.List.{flat_map}
 use Rattle.ms_ir.specs.declared.names.Name.{Name}
 use Rattle.ms_grammar.specs.Kept.{Each}
@@ -17,7 +17,7 @@ use Rattle.ms_read.specs.Shape.{Walk}
 use Rattle.ms_read.specs.Told.{IsSaid, sorts_of}
 use Rattle.ms_read.specs.declared.place.Place.{Place}
 use Rattle.ms_read.specs.declared.place.Place.TheVariants.{Outside, Begun, Front, Inner, Ended}
-use Rattle.ms_resolve.specs.Shape.{LabelLine, InstLine, TermLine, BlockLines, FuncLines, ItemLines, plain, body, inst_line, block_lines, item_lines, stands_outside, HasLabel, HasBlocks, IsItem, IsShape}
+use Rattle.ms_resolve.specs.Shape.{LabelLine, InstLine, TermLine, BlockLines, FuncLines, ItemLines, plain, body, inst_line, block_lines, item_lines, stands_outside, HasLabel, HasBlocks, IsShape}
 
 abbrev Lines : Type 0
 Lines = List (ℕ × Line)
@@ -73,13 +73,15 @@ item_more n line draft o r = (plain n line ∷ r.0, record { lines = ap (λ (x :
 func_more : (n : ℕ) (head : Head) (draft : Lines) → AfterDefine draft → HasShape ((n, said.Define head) ∷ draft)
 func_more n head draft r =
     let f : FuncLines = record { line = n; head = head; blocks = r.blocks; close = r.close } in
-    let all = flat_map block_lines r.blocks in
-    (body f ∷ r.rest.0, record {
-      lines = ap (λ (x : Lines). (n, said.Define head) ∷ x)
-          (r.whole ∙ ap (λ (x : Lines). all ++ (r.close, said.Close) ∷ x) r.rest.1.lines
-          ∙ sym (append_assoc all ((r.close, said.Close) ∷ []) (flat_map item_lines r.rest.0)));
-      each = (r.some, r.rest.1.each);
-    })
+    let all = flat_map block_lines r.blocks in (
+      body f ∷ r.rest.0,
+      record {
+        lines = ap (λ (x : Lines). (n, said.Define head) ∷ x)
+            (r.whole ∙ ap (λ (x : Lines). all ++ (r.close, said.Close) ∷ x) r.rest.1.lines
+            ∙ sym (append_assoc all ((r.close, said.Close) ∷ []) (flat_map item_lines r.rest.0)));
+        each = (r.some, r.rest.1.each);
+      },
+    )
 
 inst_more : (n : ℕ) (name : Name) (i : RawInst) (draft : Lines) → InBlock draft → InBlock ((n, said.Inst name i) ∷ draft)
 inst_more n name i draft r =

@@ -2,6 +2,8 @@
 //! module's text; or the refusal of the bytes, with its number and place. A text has one output or one refusal.
 #![tactic(auto)]
 
+mod forms;
+mod funcs;
 mod laws;
 mod output;
 mod refusal;

@@ -1,4 +1,4 @@
-use Rattle.ms_output.proofs.Outputs.{IsReadOnce, refusal_same, output_same, output_apart}
+use Rattle.ms_output.proofs.Outputs.{refusal_same, output_same, output_apart}
 use Rattle.ms_output.proofs.laws.one_output.Goals as goal
 
 pub returns-clause-text : goal.returns-clause-text
