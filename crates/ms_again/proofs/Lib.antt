@@ -1,2 +1,4 @@
+pub mod Fine
+pub mod Quiet
 pub mod Renamed
 pub mod SameText

@@ -9,8 +9,8 @@ use Rattle.ms_ir.specs.declared.names.Name.{Name}
 use Rattle.ms_ir.specs.declared.names.Name.TheVariants as name
 use Rattle.ms_ir.specs.declared.names.Param.{Param}
 use Rattle.ms_grammar.specs.Kept.{Each}
-use Rattle.ms_grammar.specs.Parts.{Part, blank, apart, kept, attributes, post, object, gep_head, indices, call_head, copy_head, text_of, Spells}
-use Rattle.ms_grammar.specs.Form.{Scale, no_scale, form, printed, word_part, type_part, local_part, value_part, brace_parts, front_parts, listed, arg_parts, entry_parts, named_parts, param_parts, dots_parts, end_parts, target_parts, inst_parts, term_parts, result_parts}
+use Rattle.ms_grammar.specs.Parts.{Part, blank, token, apart, kept, attributes, post, object, gep_head, indices, call_head, copy_head, text_of, Spells}
+use Rattle.ms_grammar.specs.Form.{Scale, no_scale, form, printed, word_part, type_part, local_part, value_part, brace_parts, front_parts, listed, arg_parts, entry_parts, name_text, named_parts, param_parts, dots_parts, end_parts, target_parts, inst_parts, term_parts, result_parts}
 use Rattle.ms_grammar.specs.Fits.{IsNamed, MayBeNamed, IsValue, IsArg, IsParam, IsEntryOf, FitsInst, FitsTerm, FitsHead, FitsLine, IsMade}
 use Rattle.ms_grammar.specs.Grammar.{Says}
 use Rattle.ms_grammar.specs.declared.line.Head.{Head}
@@ -209,17 +209,17 @@ brace_next = blank_next (token_back (word_whole word.OpenBrace))
 abbrev pub with_params : Head → Head
 with_params h = record h { params = shown_params 0 h.params }
 
-define_back : (h : Head) → FitsHead h → Each IsParam (shown_params 0 h.params) → (scale : Scale) → Back false (form scale (said.Define h)) (form scale (said.Define (with_params h)))
+pub define_back : (h : Head) → FitsHead h → Each IsParam (shown_params 0 h.params) → (scale : Scale) → Back false (form scale (said.Define h)) (form scale (said.Define (with_params h)))
 define_back h fits named scale =
     behind (head_back word.Define h (map param_parts h.params ++ dots_parts h.variadic) (map param_parts (shown_params 0 h.params) ++ dots_parts h.variadic) fits
     (each_param 0 h.params h.variadic named)) brace_next
 
-inst_line_back : (r : Renaming) (n m : Name) (scale : Scale) (i : RawInst) → MayBeNamed m → FitsInst scale (renamed_inst r i) →
+pub inst_line_back : (r : Renaming) (n m : Name) (scale : Scale) (i : RawInst) → MayBeNamed m → FitsInst scale (renamed_inst r i) →
     Back false (form scale (said.Inst n i)) (form scale (said.Inst m (renamed_inst r i)))
 inst_line_back r n m scale i named fits = (blank_next (blank_next (behind_free (result_back n m named) (inst_back r scale i fits))).back).back
 
-term_line_back : (r : Renaming) (scale : Scale) (t : RawTerm) → FitsTerm (renamed_term r t) → Back false (form scale (said.Term t)) (form scale (said.Term (renamed_term r t)))
+pub term_line_back : (r : Renaming) (scale : Scale) (t : RawTerm) → FitsTerm (renamed_term r t) → Back false (form scale (said.Term t)) (form scale (said.Term (renamed_term r t)))
 term_line_back r scale t fits = (blank_next (blank_next (term_back r t fits)).back).back
 
-label_line_back : (scale : Scale) (n m : Name) → IsNamed m → Back false (form scale (said.Label n)) (form scale (said.Label m))
-label_line_back scale n m h = behind (token_back (label_whole m h)) (mark_next colon_calm nothing.back)
+pub label_line_back : (scale : Scale) (n m : Name) → IsNamed m → Back false (form scale (said.Label n)) (form scale (said.Label m))
+label_line_back scale n m h = behind (token_back {was = token (name_text n) ∷ []} (label_whole m h)) (mark_next colon_calm (nothing {was = []}).back)

@@ -1,3 +1,6 @@
+use Rattle.ms_again.proofs.Fine.{read_fine}
+use Rattle.ms_again.proofs.Quiet.{kept_printed}
+use Rattle.ms_again.proofs.Renamed.{label_line_back}
 use Rattle.ms_again.proofs.SameText.{same_text}
 use Rattle.ms_again.proofs.laws.same_text.Goals as goal
 
