@@ -179,7 +179,7 @@ short_inst r (Phi ty entries rest) h g b = short_entries r entries h g b
 
 short_term : (r : Renaming) (t : RawTerm) → Shorts (names_of_term t) → Each (IsGoodVal r) (term_values t) → Each (IsGoodBlock r) (term_blocks t) → Shorts (names_of_term (renamed_term r t))
 short_term r (Br to rest) h g b = (b.0.1, tt)
-short_term r (CondBr cond if_true if_false rest) h g b = (b.0.1, b.1.0.1, short_val r cond h.1.1 g.0)
+short_term r (CondBr cond if_true if_false rest) h g b = (b.0.1, (b.1.0.1, short_val r cond h.1.1 g.0))
 short_term r (Ret None rest) h g b = tt
 short_term r (Ret (Some given) rest) h g b = short_val r given.1 h g.0
 short_term r (Unreachable rest) h g b = tt

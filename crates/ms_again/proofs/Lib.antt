@@ -1,4 +1,6 @@
 pub mod Fine
+pub mod Names
+pub mod Plain
 pub mod Quiet
 pub mod Renamed
 pub mod SameText

@@ -1,3 +1,5 @@
+use Rattle.ms_again.proofs.Plain.{func_plain}
+use Rattle.ms_again.proofs.Names.{func_along}
 use Rattle.ms_again.proofs.Fine.{read_fine}
 use Rattle.ms_again.proofs.Quiet.{kept_printed}
 use Rattle.ms_again.proofs.Renamed.{label_line_back}
