@@ -4,3 +4,4 @@ pub mod Plain
 pub mod Quiet
 pub mod Renamed
 pub mod SameText
+pub mod ShownNames

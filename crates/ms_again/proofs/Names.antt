@@ -301,7 +301,7 @@ blocks_along g names labels pre before next l b (x ∷ xs) h k =
       (one_more labels before (g.name next (label_name x.label)) (block_names g (block_free g next x) xs) b k),
     )
 
-param_count : (g : Naming) (next : ℕ) (ps : List Param) → length (param_names g next ps) ≡ length ps
+pub param_count : (g : Naming) (next : ℕ) (ps : List Param) → length (param_names g next ps) ≡ length ps
 param_count g next [] = refl
 param_count g next (p ∷ ps) = ap suc (param_count g (g.free next p.name) ps)
 
