@@ -1,3 +1,4 @@
+pub mod Again
 pub mod Fine
 pub mod Names
 pub mod Plain
