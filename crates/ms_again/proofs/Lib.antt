@@ -2,6 +2,7 @@ pub mod Again
 pub mod Fine
 pub mod Names
 pub mod Plain
+pub mod Printed
 pub mod Quiet
 pub mod Renamed
 pub mod SameText

@@ -1,3 +1,4 @@
+use Rattle.ms_again.proofs.Printed.{module_rows}
 use Rattle.ms_again.proofs.Again.{items_shape, items_numbered}
 use Rattle.ms_again.proofs.ShownNames.{shown_is}
 use Rattle.ms_again.proofs.Plain.{func_plain}
