@@ -5,5 +5,6 @@ pub mod Plain
 pub mod Printed
 pub mod Quiet
 pub mod Renamed
+pub mod Right
 pub mod SameText
 pub mod ShownNames
