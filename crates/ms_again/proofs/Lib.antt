@@ -1,5 +1,6 @@
 pub mod Again
 pub mod Fine
+pub mod Known
 pub mod Names
 pub mod Plain
 pub mod Printed
@@ -8,3 +9,4 @@ pub mod Renamed
 pub mod Right
 pub mod SameText
 pub mod ShownNames
+pub mod Sites

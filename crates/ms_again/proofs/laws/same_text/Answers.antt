@@ -1,3 +1,5 @@
+use Rattle.ms_again.proofs.Known.{items_known}
+use Rattle.ms_again.proofs.Sites.{func_there, body_at}
 use Rattle.ms_again.proofs.Right.{right, shown_good, good_some, apart_some, shown_apart}
 use Rattle.ms_again.proofs.Printed.{module_rows}
 use Rattle.ms_again.proofs.Again.{items_shape, items_numbered}
