@@ -1,6 +1,7 @@
 pub mod Again
 pub mod Fine
 pub mod Known
+pub mod Lines
 pub mod Names
 pub mod Plain
 pub mod Printed
@@ -10,3 +11,4 @@ pub mod Right
 pub mod SameText
 pub mod ShownNames
 pub mod Sites
+pub mod Uses

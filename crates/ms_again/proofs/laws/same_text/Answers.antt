@@ -1,3 +1,5 @@
+use Rattle.ms_again.proofs.Lines.{items_fine, rows_are, all_say}
+use Rattle.ms_again.proofs.Uses.{lines_right, good_froms, are_right}
 use Rattle.ms_again.proofs.Known.{items_known}
 use Rattle.ms_again.proofs.Sites.{func_there, body_at}
 use Rattle.ms_again.proofs.Right.{right, shown_good, good_some, apart_some, shown_apart}
