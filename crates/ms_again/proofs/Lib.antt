@@ -3,6 +3,7 @@ pub mod Fine
 pub mod Known
 pub mod Lines
 pub mod Names
+pub mod Placed
 pub mod Plain
 pub mod Printed
 pub mod Quiet
