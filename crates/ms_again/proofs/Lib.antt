@@ -1,4 +1,5 @@
 pub mod Again
+pub mod Draft
 pub mod Fine
 pub mod Known
 pub mod Lines

@@ -1,3 +1,4 @@
+use Rattle.ms_again.proofs.Draft.{text_read}
 use Rattle.ms_again.proofs.Placed.{module_lead}
 use Rattle.ms_again.proofs.Lines.{items_fine, rows_are, all_say}
 use Rattle.ms_again.proofs.Uses.{lines_right, good_froms, are_right}
