@@ -30,7 +30,7 @@ use Rattle.ms_print.proofs.NumberingLemmas.{shown_params-length}
 use Rattle.ms_again.specs.Renamed.{Renaming, renamed_term}
 use Rattle.ms_again.proofs.Renamed.{with_params}
 use Rattle.ms_again.proofs.Fine.{IsFine, each_first, each_second, read_fine, read_kept}
-use Rattle.ms_again.proofs.Names.{shown, label_name, inst_free, block_free}
+use Rattle.ms_again.proofs.Names.{shown, label_name, inst_free, block_free, made_if, blocks_size, size_of}
 use Rattle.ms_again.proofs.Again.{renaming, insts_said, label_said, block_said, blocks_said, start, func_said, gap_said, items_said, items_again, IsWholeItem, items_numbered}
 use Rattle.ms_again.proofs.Printed.{row_text, rows_text, module_rows}
 use Rattle.ms_again.proofs.Sites.{each_at, at_each, each_flat, IsFineEntry, IsFineFunc, fine_func}
@@ -48,38 +48,21 @@ rows_long (l ∷ ls) =
     let both = length-append (row_text l) (rows_text ls) in
     omega arith
 
-abbrev made_if : InstLine → Bool → List Made
-made_if x b = if b then record { line = x.line; is_block = false; name = x.name } ∷ [] else []
+insts_count : (r : Renaming) (next : ℕ) (xs : List InstLine) → length (insts_said r next xs) ≡ length xs
+insts_count r next [] = refl
+insts_count r next (x ∷ xs) = ap suc (insts_count r (inst_free shown next x) xs)
 
-one_made : (x : InstLine) (b : Bool) → length (made_if x b) ≤ 1
-one_made x true = omega arith
-one_made x false = omega arith
-
-insts_made : (r : Renaming) (next : ℕ) (xs : List InstLine) → length (flat_map inst_made xs) ≤ length (insts_said r next xs)
-insts_made r next [] = omega arith
-insts_made r next (x ∷ xs) =
-    let here = one_made x (makes x.inst) in
-    let rest = insts_made r (inst_free shown next x) xs in
-    let both = length-append (inst_made x) (flat_map inst_made xs) in
-    omega arith
-
-block_long : (r : Renaming) (first : Bool) (n next : ℕ) (b : BlockLines) → length (block_made n b) ≤ length (block_said r first next b)
-block_long r first n next b =
+blocks_long : (r : Renaming) (first : Bool) (next : ℕ) (bs : List BlockLines) → blocks_size bs ≤ length (blocks_said r first next bs)
+blocks_long r first next [] = omega arith
+blocks_long r first next (b ∷ bs) =
     let labels = label_said first next (label_name b.label) in
     let insts = insts_said r (free_after next (label_name b.label)) b.insts in
-    let some = insts_made r (free_after next (label_name b.label)) b.insts in
-    let one = length-append labels insts in
     let end : List Line = said.Term (renamed_term r b.end.term) ∷ [] in
+    let some = insts_count r (free_after next (label_name b.label)) b.insts in
+    let one = length-append labels insts in
     let two = length-append (labels ++ insts) end in
-    omega arith
-
-blocks_long : (r : Renaming) (first : Bool) (n next : ℕ) (bs : List BlockLines) → length (flat_map (block_made n) bs) ≤ length (blocks_said r first next bs)
-blocks_long r first n next [] = omega arith
-blocks_long r first n next (b ∷ bs) =
-    let here = block_long r first n next b in
-    let rest = blocks_long r false n (block_free shown next b) bs in
-    let one = length-append (block_made n b) (flat_map (block_made n) bs) in
-    let two = length-append (block_said r first next b) (blocks_said r false (block_free shown next b) bs) in
+    let rest = blocks_long r false (block_free shown next b) bs in
+    let three = length-append (block_said r first next b) (blocks_said r false (block_free shown next b) bs) in
     omega arith
 
 further_long : (ms : List (List Part)) → length ms ≤ length (text_of (further ms))
@@ -113,15 +96,13 @@ define_long h =
     let three = parts_long (head_parts word.Define h) brace_parts in
     omega arith
 
-func_long : (f : FuncLines) → length (made_in f) ≤ 1 + length (rows_text (func_said f))
+func_long : (f : FuncLines) → size_of f ≤ 1 + length (rows_text (func_said f))
 func_long f =
     let blocks = blocks_said (renaming f) true (start f) f.blocks in
     let rest : List Line = blocks ++ said.Close ∷ [] in
     let define = define_long (with_params f.head) in
     let params = shown_params-length 0 f.head.params in
-    let made = length-append (map (param_made f.line) f.head.params) (flat_map (block_made f.line) f.blocks) in
-    let count = length-map f.head.params (param_made f.line) in
-    let some = blocks_long (renaming f) true f.line (start f) f.blocks in
+    let some = blocks_long (renaming f) true (start f) f.blocks in
     let lines = length-append blocks (said.Close ∷ []) in
     let long = rows_long rest in
     let first = length-append (printed (said.Define (with_params f.head))) (10 ∷ []) in
@@ -130,7 +111,7 @@ func_long f =
 
 abbrev pub AreFewMade : ℕ → ItemLines → Type 0
 AreFewMade n (plain k line) = Unit {0}
-AreFewMade n (body f) = length (made_in f) ≤ 1 + n
+AreFewMade n (body f) = size_of f ≤ 1 + n
 
 rows_split : (xs ys : List Line) → length (rows_text (xs ++ ys)) ≡ length (rows_text xs) + length (rows_text ys)
 rows_split [] ys = omega arith
@@ -151,6 +132,34 @@ items_few n before (body f ∷ rest) h =
     let two = rows_split (func_said f) (items_said (Some true) rest) in
     let long = func_long f in
     ((omega arith), items_few n (Some true) rest (omega arith))
+
+-- what is made takes no more
+one_made : (x : InstLine) (b : Bool) → length (made_if x b) ≤ 1
+one_made x true = omega arith
+one_made x false = omega arith
+
+insts_size : (xs : List InstLine) → length (flat_map inst_made xs) ≤ length xs
+insts_size [] = omega arith
+insts_size (x ∷ xs) =
+    let here = one_made x (makes x.inst) in
+    let rest = insts_size xs in
+    let both = length-append (inst_made x) (flat_map inst_made xs) in
+    omega arith
+
+made_blocks : (n : ℕ) (bs : List BlockLines) → length (flat_map (block_made n) bs) ≤ blocks_size bs
+made_blocks n [] = omega arith
+made_blocks n (b ∷ bs) =
+    let here = insts_size b.insts in
+    let rest = made_blocks n bs in
+    let both = length-append (block_made n b) (flat_map (block_made n) bs) in
+    omega arith
+
+made_size : (f : FuncLines) → length (made_in f) ≤ size_of f
+made_size f =
+    let made = length-append (map (param_made f.line) f.head.params) (flat_map (block_made f.line) f.blocks) in
+    let count = length-map f.head.params (param_made f.line) in
+    let some = made_blocks f.line f.blocks in
+    omega arith
 
 -- what is known of items whose lines rows say
 pub record IsBasis (items : List ItemLines) : Type 0 where
@@ -184,9 +193,10 @@ pub module_named : (effects : List ℕ → Effects) (keeps : List ℕ → Bool) 
 module_named effects keeps spare items sound basis few = record {
   each = λ f il.
       let fine : IsFineFunc f = at_each IsFineItem items il.0 (body f) (basis_fine items basis.said_all) il.1 in
-      let made : length (made_in f) ≤ 1 + 1048576 = at_each (AreFewMade 1048576) items il.0 (body f) (items_few 1048576 None items few) il.1 in
+      let made : size_of f ≤ 1 + 1048576 = at_each (AreFewMade 1048576) items il.0 (body f) (items_few 1048576 None items few) il.1 in
+      let less = made_size f in
       let names = are_right items f sound.names il fine (omega arith) in
-      record { fine = fine; names = names; uses = lines_right items f sound.names il fine names };
+      record { fine = fine; few = omega arith; names = names; uses = lines_right items f sound.names il fine names };
 }
 
 whole_item : (items : List ItemLines) → AreNamed items → (item : ItemLines) → IsIn items item → Each (λ (e : ℕ × Line). IsSaid e.1) (item_lines item) → IsFineWhole item

@@ -1,5 +1,5 @@
 -- Each line that is printed for a module without faults is said by its row, and the text is those rows.
-use Rattle.std.proofs.Common.{◌≡◌, ◌≤◌, ◌<◌, ◌+◌, ◌==◌, ◌⊎◌, inl, inr, ⊎_elim, ℕ, zero, suc, Bool, true, false, List, [], ◌∷◌, ◌++◌, Option, Some, None, map, length, if◌then◌else◌, refl, sym, ap, subst, ◌∙◌, arith, append_assoc, is_some}
+use Rattle.std.proofs.Common.{◌≡◌, ◌≤◌, ◌<◌, ◌+◌, ◌^◌, ◌==◌, ◌⊎◌, inl, inr, ⊎_elim, ℕ, zero, suc, Bool, true, false, List, [], ◌∷◌, ◌++◌, Option, Some, None, map, length, if◌then◌else◌, refl, sym, ap, subst, ◌∙◌, arith, append_assoc, is_some}
 use Rattle.std.specs.Prelude.{slice_index, nat_eq}
 use Rattle.std.specs.List.{flat_map}
 use Rattle.ms_lex.specs.Line.{IsTokens}
@@ -21,7 +21,7 @@ use Rattle.ms_reread.proofs.Places.{whole_tokens, gap_none}
 use Rattle.ms_again.specs.Renamed.{Renaming, renamed_inst, renamed_term}
 use Rattle.ms_again.proofs.Quiet.{IsPrinted, IsQuiet}
 use Rattle.ms_again.proofs.Fine.{IsFine, IsGood, IsGoodParam, made_name, inst_fine, term_fine, label_fine, define_fine, each_join, each_first, each_second}
-use Rattle.ms_again.proofs.Names.{shown, label_name, param_names, params_free, inst_free, block_free, results, result_of, all_results, block_names, locals_listed, blocks_listed}
+use Rattle.ms_again.proofs.Names.{shown, label_name, param_names, params_free, inst_free, block_free, results, result_of, all_results, block_names, locals_listed, blocks_listed, size_of}
 use Rattle.ms_again.proofs.Again.{renaming, inst_said, insts_said, first_said, label_said, block_said, blocks_said, start, func_said, gap_said, items_said}
 use Rattle.ms_again.proofs.Printed.{row_text, rows_text}
 use Rattle.ms_again.proofs.Sites.{IsFineEntry, IsFineBlock, IsFineFunc}
@@ -110,6 +110,7 @@ params_good next (p ∷ ps) h = (h.0, params_good (free_after next p.name) ps h.
 -- a function
 pub record IsFineNamed (f : FuncLines) : Type 0 where
   pub fine : IsFineFunc f
+  pub few : size_of f ≤ 10 ^ 9
   pub names : AreRight f
   pub uses : Each (IsRightLines f) f.blocks
 

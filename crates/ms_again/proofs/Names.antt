@@ -114,7 +114,7 @@ params_by g n next [] = refl
 params_by g n next (p ∷ ps) = params_by g n (g.free next p.name) ps
 
 -- one instruction
-abbrev made_if : InstLine → Bool → List Made
+abbrev pub made_if : InstLine → Bool → List Made
 made_if x b = if b then record { line = x.line; is_block = false; name = x.name } ∷ [] else []
 
 inst_locals : (g : Naming) (next : ℕ) (x : InstLine) (b : Bool) → locals_in (named_by g next (made_if x b)) ≡ (if b then g.name next x.name ∷ [] else [])
@@ -310,3 +310,12 @@ pub func_along : (g : Naming) (f : FuncLines) → AlongBlocks g (locals_listed g
 func_along g f =
     blocks_along g (locals_listed g f) (blocks_listed g f) (param_names g 0 f.head.params) [] (params_free g 0 f.head.params) (length f.head.params) 0 f.blocks
     (record { split = refl; count = param_count g 0 f.head.params }) (record { split = refl; count = refl })
+
+-- how many lines blocks have at least
+abbrev pub blocks_size : List BlockLines → ℕ
+blocks_size [] = 0
+blocks_size (b ∷ bs) = suc (length b.insts) + blocks_size bs
+
+-- how much a function makes at most
+abbrev pub size_of : FuncLines → ℕ
+size_of f = length f.head.params + blocks_size f.blocks
