@@ -1,4 +1,5 @@
 pub mod Again
+pub mod AgainNames
 pub mod Draft
 pub mod Fine
 pub mod Known

@@ -1,3 +1,4 @@
+use Rattle.ms_again.proofs.AgainNames.{names_again, none_small, blocks_are_again, locals_again, own_shown}
 use Rattle.ms_again.proofs.Draft.{text_read}
 use Rattle.ms_again.proofs.Placed.{module_lead}
 use Rattle.ms_again.proofs.Lines.{items_fine, rows_are, all_say}
