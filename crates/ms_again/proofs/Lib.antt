@@ -11,6 +11,7 @@ pub mod Printed
 pub mod Quiet
 pub mod Renamed
 pub mod Right
+pub mod Same
 pub mod SameText
 pub mod ShownNames
 pub mod Sites
