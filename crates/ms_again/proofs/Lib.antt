@@ -12,6 +12,7 @@ pub mod Quiet
 pub mod Renamed
 pub mod Right
 pub mod Same
+pub mod SameModule
 pub mod SameText
 pub mod ShownNames
 pub mod Sites

@@ -120,7 +120,7 @@ line_sigs effects keeps n k (said.Define h) = refl
 line_sigs effects keeps n k (said.Inst r i) = refl
 line_sigs effects keeps n k (said.Term t) = refl
 
-line_bodies : (scope scope' : FuncLines → Scope) (spare : List ℕ → ℕ) (n k : ℕ) (l : Line) → bodies_in scope' spare (plain n l) ≡ bodies_in scope spare (plain k l)
+pub line_bodies : (scope scope' : FuncLines → Scope) (spare : List ℕ → ℕ) (n k : ℕ) (l : Line) → bodies_in scope' spare (plain n l) ≡ bodies_in scope spare (plain k l)
 line_bodies s t p n k said.Empty = refl
 line_bodies s t p n k said.Close = refl
 line_bodies s t p n k (said.Kept text) = refl
@@ -177,7 +177,7 @@ symbols_same row before (body f ∷ rest) =
     let at = row + length (gap_said before true) in
     ap (λ (ys : List (List ℕ)). f.head.name ∷ ys) (symbols_same (at + length (func_said f)) (Some true) rest)
 
-items_same : (f g row : ℕ) (before : Option Bool) (items : List ItemLines) → items_from f g (items_again row before items) ≡ items_from f g items
+pub items_same : (f g row : ℕ) (before : Option Bool) (items : List ItemLines) → items_from f g (items_again row before items) ≡ items_from f g items
 items_same f g row before [] = refl
 items_same f g row before (plain n said.Empty ∷ rest) = items_same f g _ (Some false) rest
 items_same f g row before (plain n said.Close ∷ rest) = items_same f g _ (Some false) rest
