@@ -4,6 +4,7 @@ pub mod Draft
 pub mod Fine
 pub mod Known
 pub mod Lines
+pub mod NameSound
 pub mod Names
 pub mod Placed
 pub mod Plain

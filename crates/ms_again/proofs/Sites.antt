@@ -248,11 +248,14 @@ pub block_known : (items : List ItemLines) (f : FuncLines) (n : ℕ) (used : Nam
 block_known items f n used sound il stands q is_name on =
     known_name (blocks_of f) q (named_same q is_name) (λ none. sound n (named.HasNameFault.inside f il (named.HasFaultIn.unknown used stands (named.UsesUnknown.block q on none))))
 
+pub symbol_in : (items : List ItemLines) (f : FuncLines) (n : ℕ) (used : Names) → NoNameFault items → IsIn items (body f) → StandsAt f n used → (w : List ℕ) → IsIn used.symbols w → IsIn (known_symbols items) w
+symbol_in items f n used sound il stands w on =
+    among_in (known_symbols items) w
+    (known_word (known_symbols items) w (λ none. sound n (named.HasNameFault.inside f il (named.HasFaultIn.unknown used stands (named.UsesUnknown.global w on none)))))
+
 pub symbol_known : (items : List ItemLines) (f : FuncLines) (n : ℕ) (used : Names) → NoNameFault items → IsIn items (body f) → StandsAt f n used → (w : List ℕ) → IsIn used.symbols w →
     IsIn (names_of items).funcs w ⊎ IsIn (names_of items).globals w
-symbol_known items f n used sound il stands w on =
-    known_named items w (among_in (known_symbols items) w
-    (known_word (known_symbols items) w (λ none. sound n (named.HasNameFault.inside f il (named.HasFaultIn.unknown used stands (named.UsesUnknown.global w on none))))))
+symbol_known items f n used sound il stands w on = known_named items w (symbol_in items f n used sound il stands w on)
 
 -- the bodies of a module
 abbrev pub built : (List ℕ → Effects) → (List ℕ → Bool) → (List ℕ → ℕ) → List ItemLines → FuncLines → FuncState
