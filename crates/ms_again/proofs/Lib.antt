@@ -1,5 +1,6 @@
 pub mod Again
 pub mod AgainNames
+pub mod Carried
 pub mod Draft
 pub mod Fine
 pub mod Known
@@ -18,3 +19,4 @@ pub mod SameText
 pub mod ShownNames
 pub mod Sites
 pub mod Uses
+pub mod ValidSound

@@ -1,3 +1,4 @@
+use Rattle.ms_again.proofs.ValidSound.{types_sound, edges_sound, order_sound, loops_sound}
 use Rattle.ms_again.proofs.NameSound.{names_sound}
 use Rattle.ms_again.proofs.SameModule.{module_same, meaning_again}
 use Rattle.ms_again.proofs.Same.{plain_same, sigs_same, names_same, symbols_same, groups_same}
