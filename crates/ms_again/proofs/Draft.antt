@@ -189,11 +189,12 @@ pub record AreNamed (items : List ItemLines) : Type 0 where
   pub each : (f : FuncLines) → IsIn items (body f) → IsFineNamed f
 
 pub module_named : (effects : List ℕ → Effects) (keeps : List ℕ → Bool) (spare : List ℕ → ℕ) (items : List ItemLines) → IsSound effects keeps spare items → IsBasis items →
-    length (rows_text (items_said None items)) ≤ 1048576 → AreNamed items
+    length (rows_text (items_said None items)) < 10 ^ 9 → AreNamed items
 module_named effects keeps spare items sound basis few = record {
   each = λ f il.
       let fine : IsFineFunc f = at_each IsFineItem items il.0 (body f) (basis_fine items basis.said_all) il.1 in
-      let made : size_of f ≤ 1 + 1048576 = at_each (AreFewMade 1048576) items il.0 (body f) (items_few 1048576 None items few) il.1 in
+      let n = length (rows_text (items_said None items)) in
+      let made : size_of f ≤ 1 + n = at_each (AreFewMade n) items il.0 (body f) (items_few n None items (omega arith)) il.1 in
       let less = made_size f in
       let names = are_right items f sound.names il fine (omega arith) in
       record { fine = fine; few = omega arith; names = names; uses = lines_right items f sound.names il fine names };

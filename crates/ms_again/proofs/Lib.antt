@@ -11,6 +11,7 @@ pub mod Placed
 pub mod Plain
 pub mod Printed
 pub mod Quiet
+pub mod ReadAgain
 pub mod Renamed
 pub mod Right
 pub mod Same

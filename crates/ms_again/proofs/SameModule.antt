@@ -102,7 +102,7 @@ module_same effects keeps spare items named =
     ∙ ap (λ ns. M (groups_of items) (items_from 0 0 items) (flat_map (sigs_in effects keeps) items) (bare_bodies (module_of effects keeps spare items).bodies) ns) (names_same 1 None items)
 
 -- attributes mean the same
-pub meaning_again : (items : List ItemLines) → Meaning (groups_of items) → Meaning (groups_of (items_again 1 None items))
+abbrev pub meaning_again : (items : List ItemLines) → Meaning (groups_of items) → Meaning (groups_of (items_again 1 None items))
 meaning_again items m = record {
   effects = m.effects;
   keeps = m.keeps;

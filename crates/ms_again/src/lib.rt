@@ -3,4 +3,4 @@
 
 mod laws;
 
-pub use laws::same_text;
+pub use laws::{read_again, same_text};
