@@ -7,6 +7,7 @@ pub mod Known
 pub mod Lines
 pub mod NameSound
 pub mod Names
+pub mod OneModule
 pub mod Placed
 pub mod Plain
 pub mod Printed

@@ -3,4 +3,4 @@
 
 mod laws;
 
-pub use laws::{read_again, same_text};
+pub use laws::{one_module, read_again, same_text};
