@@ -20,7 +20,7 @@ use Rattle.ms_resolve.specs.Shape.{LabelLine, InstLine, BlockLines, FuncLines, I
 use Rattle.ms_resolve.specs.Made.{makes, locals_of, blocks_of}
 use Rattle.ms_resolve.specs.Scope.{number_of_name}
 use Rattle.ms_print.specs.Numbering.{shown_name, free_after}
-use Rattle.ms_again.specs.Renamed.{Renaming, renamed_inst, renamed_term}
+use Rattle.ms_again.proofs.Renaming.{Renaming, renamed_inst, renamed_term}
 use Rattle.ms_again.proofs.Renamed.{with_params}
 use Rattle.ms_again.proofs.Fine.{made_name}
 use Rattle.ms_again.proofs.Names.{shown, label_name, inst_free, block_free, params_free, locals_listed, blocks_listed}

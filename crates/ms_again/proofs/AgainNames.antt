@@ -12,9 +12,9 @@ use Rattle.ms_resolve.specs.Shape.{LabelLine, InstLine, BlockLines, FuncLines}
 use Rattle.ms_resolve.specs.Made.{Made, makes, param_made, inst_made, label_made, block_made, made_in, full_name, free_behind, free_after as free_over, named_from, named_in, locals_of, blocks_of, name_of_made}
 use Rattle.ms_print.specs.Numbering.{numbered, shown_name, free_after, shown_params}
 use Rattle.ms_again.specs.Same.{own_name}
-use Rattle.ms_again.specs.Renamed.{Renaming, renamed_inst}
+use Rattle.ms_again.proofs.Renaming.{Renaming, renamed_inst}
 use Rattle.ms_again.proofs.Fine.{made_name}
-use Rattle.ms_again.proofs.Right.{names_in, shown_next}
+use Rattle.ms_again.proofs.Right.{names_in, numbered_is, shown_next}
 use Rattle.ms_again.proofs.Names.{shown, named_by, free_by, locals_in, blocks_in, label_name, inst_free, insts_free, block_free, params_free, made_if, locals_listed, blocks_listed, locals_by, blocks_by, blocks_size, size_of}
 use Rattle.ms_again.proofs.Again.{renaming, insts_said, label_said, block_said, first_again, label_again, insts_again, block_again, blocks_again, start, func_again}
 
@@ -29,9 +29,6 @@ pub record IsAgain (next : ℕ) (new old : Name) : Type 0 where
   pub name : full_name next new ≡ shown_name next old
   pub free : free_behind next new ≡ free_after next old
   pub high : IsHigh next new
-
-pub numbered_is : (next : ℕ) → next < 10 ^ 9 → numbered next ≡ Number next
-numbered_is next h = let t : nat_lt next (2 ^ 32) ≡ true = grind (arith, nat_tests) in rw t refl
 
 number_again : (next : ℕ) (old : Name) → shown_name next old ≡ numbered next → free_after next old ≡ next + 1 → next < 10 ^ 9 → IsAgain next (numbered next) old
 number_again next old shown free h =
@@ -68,7 +65,7 @@ params_next : (line next : ℕ) (ps : List Param) → free_by shown next (map (p
 params_next line next [] = refl
 params_next line next (p ∷ ps) = params_next line (free_after next p.name) ps
 
-params_less : (next : ℕ) (ps : List Param) → params_free shown next ps ≤ next + length ps
+pub params_less : (next : ℕ) (ps : List Param) → params_free shown next ps ≤ next + length ps
 params_less next [] = omega arith
 params_less next (p ∷ ps) = let more = shown_next next p.name in let rest = params_less (free_after next p.name) ps in omega arith
 

@@ -27,7 +27,7 @@ use Rattle.ms_resolve.specs.Module.{names_of, module_of}
 use Rattle.ms_print.specs.Numbering.{shown_params, free_after}
 use Rattle.ms_print.specs.Text.{ended, module_text}
 use Rattle.ms_print.proofs.NumberingLemmas.{shown_params-length}
-use Rattle.ms_again.specs.Renamed.{Renaming, renamed_term}
+use Rattle.ms_again.proofs.Renaming.{Renaming, renamed_term}
 use Rattle.ms_again.proofs.Renamed.{with_params}
 use Rattle.ms_again.proofs.Fine.{IsFine, each_first, each_second, read_fine, read_kept}
 use Rattle.ms_again.proofs.Names.{shown, label_name, inst_free, block_free, made_if, blocks_size, size_of}

@@ -26,7 +26,7 @@ use Rattle.ms_line.specs.Cause.{IsRead}
 use Rattle.ms_print.specs.Numbering.{shown_params}
 use Rattle.ms_resolve.specs.Made.{makes}
 use Rattle.ms_resolve.specs.Used.{values_of, term_values, inst_blocks, term_blocks, arg_value, entry_value, entry_block}
-use Rattle.ms_again.specs.Renamed.{Renaming, renamed_val, renamed_arg, renamed_entry, renamed_inst, renamed_given, renamed_term}
+use Rattle.ms_again.proofs.Renaming.{Renaming, renamed_val, renamed_arg, renamed_entry, renamed_inst, renamed_given, renamed_term}
 use Rattle.ms_again.proofs.Renamed.{with_params, define_back, inst_line_back, term_line_back, label_line_back}
 use Rattle.ms_again.proofs.Quiet.{IsPrinted, printed_by, kept_printed}
 

@@ -14,6 +14,7 @@ pub mod Printed
 pub mod Quiet
 pub mod ReadAgain
 pub mod Renamed
+pub mod Renaming
 pub mod Right
 pub mod Same
 pub mod SameModule

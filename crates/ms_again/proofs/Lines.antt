@@ -18,7 +18,7 @@ use Rattle.ms_read.specs.Draft.{Say}
 use Rattle.ms_print.specs.Numbering.{shown_name, free_after, shown_params}
 use Rattle.ms_print.specs.Text.{ended}
 use Rattle.ms_reread.proofs.Places.{whole_tokens, gap_none}
-use Rattle.ms_again.specs.Renamed.{Renaming, renamed_inst, renamed_term}
+use Rattle.ms_again.proofs.Renaming.{Renaming, renamed_inst, renamed_term}
 use Rattle.ms_again.proofs.Quiet.{IsPrinted, IsQuiet}
 use Rattle.ms_again.proofs.Fine.{IsFine, IsGood, IsGoodParam, made_name, inst_fine, term_fine, label_fine, define_fine, each_join, each_first, each_second}
 use Rattle.ms_again.proofs.Names.{shown, label_name, param_names, params_free, inst_free, block_free, results, result_of, all_results, block_names, locals_listed, blocks_listed, size_of}

@@ -22,7 +22,7 @@ use Rattle.ms_resolve.specs.Faults as named
 use Rattle.ms_resolve.specs.Cause.{NoNameFault}
 use Rattle.ms_resolve.proofs.Members.{among_in}
 use Rattle.ms_valid.proofs.ListLemmas.{in_nil, in_one, in_flat, get_map, map_get}
-use Rattle.ms_again.specs.Renamed.{Renaming, renamed_val, renamed_arg, renamed_entry, renamed_inst, renamed_term}
+use Rattle.ms_again.proofs.Renaming.{Renaming, renamed_val, renamed_arg, renamed_entry, renamed_inst, renamed_term}
 use Rattle.ms_again.proofs.Right.{AreApart, apart_at, names_in}
 use Rattle.ms_again.proofs.Names.{shown, named_by, locals_listed, blocks_listed, block_free, inst_free, label_name}
 use Rattle.ms_again.proofs.Again.{renaming, insts_said, label_said, block_said, insts_again, block_again, blocks_again, start, func_said, gap_said, func_again, items_again}

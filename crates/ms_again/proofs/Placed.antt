@@ -19,7 +19,7 @@ use Rattle.ms_read.specs.declared.place.Progress.{Progress}
 use Rattle.ms_read.specs.Places.{behind, counted, next_place, begins_block, AreFew, Lead, outset}
 use Rattle.ms_resolve.specs.Shape.{LabelLine, InstLine, BlockLines, FuncLines, ItemLines, plain, body, label_lines, inst_line, block_lines, func_lines, item_lines, HasLabel, HasBlocks, IsItem}
 use Rattle.ms_print.specs.Numbering.{shown_name, free_after}
-use Rattle.ms_again.specs.Renamed.{Renaming, renamed_inst, renamed_term}
+use Rattle.ms_again.proofs.Renaming.{Renaming, renamed_inst, renamed_term}
 use Rattle.ms_again.proofs.Names.{shown, label_name, inst_free, block_free}
 use Rattle.ms_again.proofs.Again.{renaming, inst_said, insts_said, first_said, label_said, block_said, blocks_said, start, func_said, gap_said, items_said}
 

@@ -40,7 +40,7 @@ use Rattle.ms_print.specs.Numbering.{shown_name, free_after, shown_params}
 use Rattle.ms_print.specs.Lines.{Shown, shown_in, label_of, word_at, raw_val, raw_arg, raw_entry, raw_inst, raw_term, result_name, inst_line, term_line, label_line, define_line, define_with}
 use Rattle.ms_print.specs.Text.{ended, insts_text, first_label, label_text, block_text, blocks_text, func_text, no_notes, body_text, item_text, has_body, gap, items_text, module_text}
 use Rattle.ms_again.specs.Same.{own_name, plain_param, plain_func}
-use Rattle.ms_again.specs.Renamed.{Renaming, renamed_val, renamed_arg, renamed_entry, renamed_inst, renamed_given, renamed_term}
+use Rattle.ms_again.proofs.Renaming.{Renaming, renamed_val, renamed_arg, renamed_entry, renamed_inst, renamed_given, renamed_term}
 use Rattle.ms_again.proofs.SameText.{params_plain, func_plain}
 use Rattle.ms_again.proofs.Plain as plain_lines
 use Rattle.ms_again.proofs.Plain.{plain_at, plain_insts, plain_blocks, plain_of}

@@ -37,7 +37,7 @@ use Rattle.ms_reread.proofs.Pieces.{Said, Back, Next, Before, behind, behind_fre
 use Rattle.ms_reread.proofs.Classes.{kept_back, attributes_next, post_next, tail_next}
 use Rattle.ms_reread.proofs.Tokens.{word_whole, type_whole, op_whole, predicate_whole, cast_whole, result_whole, global_whole, global_name_whole, local_whole, label_whole, colon_calm, open_calm, close_calm, open_square}
 use Rattle.ms_reread.proofs.Values.{EachBack, count_back, value_back, comma_next, listed_back}
-use Rattle.ms_again.specs.Renamed.{Renaming, renamed_val, renamed_arg, renamed_entry, renamed_inst, renamed_given, renamed_term}
+use Rattle.ms_again.proofs.Renaming.{Renaming, renamed_val, renamed_arg, renamed_entry, renamed_inst, renamed_given, renamed_term}
 
 -- tokens that are written anew, whatever was said in their place
 nothing_old : Old [] []

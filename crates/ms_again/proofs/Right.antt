@@ -134,7 +134,7 @@ MayBeGood n = MayBeNamed n × IsShort (name_text n)
 abbrev pub names_in : List Made → List Name
 names_in ms = map name_of_made ms
 
-numbered_is : (next : ℕ) → next < 10 ^ 9 → numbered next ≡ Number next
+pub numbered_is : (next : ℕ) → next < 10 ^ 9 → numbered next ≡ Number next
 numbered_is next h = let t : nat_lt next (2 ^ 32) ≡ true = grind (arith, nat_tests) in rw t refl
 
 good_number : (next : ℕ) → next < 10 ^ 9 → IsGood (numbered next)

@@ -47,14 +47,14 @@ use Rattle.ms_resolve.specs.Scope.{Scope, Meaning, number_of_name, value_of, blo
 use Rattle.ms_resolve.specs.Module.{group_of, groups_of, func_names_in, global_names_in, names_of, sigs_in, items_from, scope_of, bodies_in, module_of}
 use Rattle.ms_print.specs.Numbering.{shown_name, free_after, shown_params}
 use Rattle.ms_again.specs.Same.{own_name, plain_param, plain_func, plain_module, IsSameModule}
-use Rattle.ms_again.specs.Renamed.{Renaming, renamed_val, renamed_arg, renamed_entry, renamed_inst, renamed_given, renamed_term}
+use Rattle.ms_again.proofs.Renaming.{Renaming, renamed_val, renamed_arg, renamed_entry, renamed_inst, renamed_given, renamed_term}
 use Rattle.ms_again.proofs.Renamed.{with_params}
 use Rattle.ms_again.proofs.Fine.{made_name}
 use Rattle.ms_again.proofs.Right.{shown_next}
 use Rattle.ms_again.proofs.Names.{shown, label_name, inst_free, block_free, params_free, locals_listed, blocks_listed, blocks_size, size_of}
 use Rattle.ms_again.proofs.Plain.{plain_at, plain_insts, plain_blocks, plain_of, func_plain}
 use Rattle.ms_again.proofs.Again.{renaming, insts_said, label_said, block_said, label_again, insts_again, block_again, blocks_again, start, func_said, gap_said, func_again, items_again}
-use Rattle.ms_again.proofs.AgainNames.{makes_again, own_shown, inst_less, block_less, locals_again, blocks_are_again}
+use Rattle.ms_again.proofs.AgainNames.{makes_again, own_shown, inst_less, block_less, params_less, locals_again, blocks_are_again}
 use Rattle.ms_again.proofs.Sites.{built}
 use Rattle.ms_again.proofs.Uses.{IsRightVal, IsRightBlock, IsRightUse, IsRightInst, IsRightLines}
 use Rattle.ms_again.proofs.Lines.{IsFineNamed}
@@ -335,10 +335,6 @@ params_plain next (p ∷ ps) h =
 params_count : (next : ℕ) (ps : List Param) → length (shown_params next ps) ≡ length ps
 params_count next [] = refl
 params_count next (p ∷ ps) = ap suc (params_count (free_after next p.name) ps)
-
-params_less : (next : ℕ) (ps : List Param) → params_free shown next ps ≤ next + length ps
-params_less next [] = omega arith
-params_less next (p ∷ ps) = let more = shown_next next p.name in let rest = params_less (free_after next p.name) ps in omega arith
 
 made_count : (r : Renaming) (first : Bool) (row next n : ℕ) (bs : List BlockLines) → all_made n (blocks_again r first row next bs) ≡ all_made n bs
 made_count r first row next n [] = refl

@@ -28,7 +28,7 @@ use Rattle.ms_valid.specs.Faults as valid
 use Rattle.ms_valid.proofs.BuiltLemmas.{at_built, from_term}
 use Rattle.ms_valid.proofs.ListLemmas.{get_map, map_get, in_flat, flat_in}
 use Rattle.ms_again.specs.Same.{plain_inst, plain_block, plain_func, plain_module}
-use Rattle.ms_again.specs.Renamed.{Renaming, renamed_inst, renamed_term}
+use Rattle.ms_again.proofs.Renaming.{Renaming, renamed_inst, renamed_term}
 use Rattle.ms_again.proofs.Again.{renaming, start, gap_said, func_said, label_said, block_again, func_again, items_again}
 use Rattle.ms_again.proofs.Sites.{built, bodies_built, body_at, func_in}
 use Rattle.ms_again.proofs.Lines.{IsFineNamed}
