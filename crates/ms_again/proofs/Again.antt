@@ -1,13 +1,11 @@
 -- The items of a printed module: each line with the names that are printed, and with the number of its row.
-use Rattle.std.proofs.Common.{◌≡◌, ◌+◌, ◌||◌, ℕ, zero, suc, Bool, true, false, List, [], ◌∷◌, ◌++◌, Option, Some, None, map, length, if◌then◌else◌, refl, sym, ap, subst, ◌∙◌, arith, append_assoc, length-append}
+use Rattle.std.proofs.Common.{◌≡◌, ◌+◌, ◌||◌, ℕ, suc, Bool, true, false, List, [], ◌∷◌, ◌++◌, Option, Some, None, map, length, if◌then◌else◌, refl, sym, ap, ◌∙◌, arith, append_assoc}
 use Rattle.std.specs.Prelude.{slice_index_or}
 use Rattle.std.specs.List.{flat_map}
-use Rattle.std.proofs.lemmas.List.{append-nil}
 use Rattle.ms_ir.specs.declared.names.Name.{Name}
 use Rattle.ms_ir.specs.declared.names.Name.TheVariants.{Word, Number, Absent}
 use Rattle.ms_grammar.specs.Kept.{Each}
 use Rattle.ms_grammar.specs.Grammar.{kept_of}
-use Rattle.ms_grammar.specs.declared.line.Head.{Head}
 use Rattle.ms_grammar.specs.declared.line.RawInst.{RawInst}
 use Rattle.ms_grammar.specs.declared.line.RawInst.TheVariants.{Alloca, Gep, Load, Store, Copy, Call, Bin, Cmp, Select, Cast, Phi}
 use Rattle.ms_grammar.specs.declared.line.Line.{Line}
@@ -16,8 +14,8 @@ use Rattle.ms_line.specs.Sorts.{sort_of, sort_of_inst}
 use Rattle.ms_read.specs.Places.{is_blank}
 use Rattle.ms_read.specs.Draft.{numbered}
 use Rattle.ms_read.specs.Draft as draft
-use Rattle.ms_resolve.specs.Shape.{LabelLine, InstLine, BlockLines, FuncLines, ItemLines, plain, body, label_lines, inst_line, block_lines, func_lines, item_lines, stands_outside, IsItem, HasBlocks, HasLabel}
-use Rattle.ms_resolve.specs.Made.{makes, locals_of, blocks_of}
+use Rattle.ms_resolve.specs.Shape.{LabelLine, InstLine, BlockLines, FuncLines, ItemLines, plain, body, label_lines, inst_line, block_lines, func_lines, item_lines, IsItem, HasBlocks, HasLabel}
+use Rattle.ms_resolve.specs.Made.{locals_of, blocks_of}
 use Rattle.ms_resolve.specs.Scope.{number_of_name}
 use Rattle.ms_print.specs.Numbering.{shown_name, free_after}
 use Rattle.ms_again.proofs.Renaming.{Renaming, renamed_inst, renamed_term}

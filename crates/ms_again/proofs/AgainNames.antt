@@ -1,8 +1,7 @@
 -- What the printed lines of a function make gets the printed names again.
-use Rattle.std.proofs.Common.{◌≡◌, ◌≤◌, ◌<◌, ◌+◌, ◌^◌, ◌⊎◌, inl, inr, ⊎_elim, ℕ, zero, suc, Bool, true, false, cond, List, [], ◌∷◌, ◌++◌, Option, Some, None, map, take, length, if◌then◌else◌, refl, sym, ap, subst, ◌∙◌, arith, append_assoc, length-append}
-use Rattle.std.specs.Prelude.{slice_get, filter, not, nat_lt}
+use Rattle.std.proofs.Common.{◌≡◌, ◌≤◌, ◌<◌, ◌+◌, ◌^◌, ℕ, zero, suc, Bool, true, false, cond, List, [], ◌∷◌, ◌++◌, Option, Some, None, map, take, length, if◌then◌else◌, refl, sym, ap, subst, ◌∙◌, arith}
+use Rattle.std.specs.Prelude.{slice_get, filter, not}
 use Rattle.std.specs.List.{flat_map}
-use Rattle.std.proofs.lemmas.Bool.Decides.{nat_tests}
 use Rattle.ms_ir.specs.declared.names.Name.{Name}
 use Rattle.ms_ir.specs.declared.names.Name.TheVariants.{Word, Number, Absent}
 use Rattle.ms_ir.specs.declared.names.Param.{Param}
@@ -15,8 +14,8 @@ use Rattle.ms_again.specs.Same.{own_name}
 use Rattle.ms_again.proofs.Renaming.{Renaming, renamed_inst}
 use Rattle.ms_again.proofs.Fine.{made_name}
 use Rattle.ms_again.proofs.Right.{names_in, numbered_is, shown_next}
-use Rattle.ms_again.proofs.Names.{shown, named_by, free_by, locals_in, blocks_in, label_name, inst_free, insts_free, block_free, params_free, made_if, locals_listed, blocks_listed, locals_by, blocks_by, blocks_size, size_of}
-use Rattle.ms_again.proofs.Again.{renaming, insts_said, label_said, block_said, first_again, label_again, insts_again, block_again, blocks_again, start, func_again}
+use Rattle.ms_again.proofs.Names.{shown, named_by, free_by, locals_in, blocks_in, label_name, inst_free, insts_free, block_free, params_free, locals_listed, blocks_listed, locals_by, blocks_by, blocks_size, size_of}
+use Rattle.ms_again.proofs.Again.{renaming, label_said, block_said, label_again, insts_again, block_again, blocks_again, start, func_again}
 
 -- a written number that is less than the next free one
 abbrev pub IsHigh : ℕ → Name → Type 0
@@ -157,7 +156,7 @@ block_made_again r first row row' line next b h =
       label_block row' new ∙ sym (label_block line b.label),
       is_again,
       subst (λ n. AreAgain (free_after next n) (flat_map inst_made (insts_again r (row + length (label_said first next name)) (free_after next name) b.insts)) (flat_map inst_made b.insts))
-      (sym (label_named line b.label)) rest,
+          (sym (label_named line b.label)) rest,
     )
 
 block_next : (line next : ℕ) (b : BlockLines) → free_by shown next (block_made line b) ≡ block_free shown next b

@@ -1,8 +1,7 @@
 -- What holds of a function holds of one that is the same but for its written numbers.
-use Rattle.std.proofs.Common.{◌≡◌, ◌≢◌, ◌<◌, ◌⊎◌, inl, inr, ⊎_elim, ℕ, zero, suc, Bool, true, false, List, [], ◌∷◌, ◌++◌, Option, Some, None, map, length, refl, sym, ap, subst, ◌∙◌}
+use Rattle.std.proofs.Common.{◌≡◌, inl, inr, ⊎_elim, ℕ, zero, suc, List, [], ◌∷◌, Some, map, length, refl, sym, ap, subst, ◌∙◌}
 use Rattle.std.specs.Prelude.{slice_get, slice_index_or}
-use Rattle.ms_paths.specs.Flow.{Block as Run, IsPath, IsMet, IsReducible}
-use Rattle.ms_ir.specs.declared.names.Name.{Name}
+use Rattle.ms_paths.specs.Flow.{Block as Run, IsPath, IsMet}
 use Rattle.ms_ir.specs.declared.names.Ty.{Ty}
 use Rattle.ms_ir.specs.declared.names.Param.{Param}
 use Rattle.ms_ir.specs.declared.names.LocalNo.{LocalNo}
@@ -14,8 +13,8 @@ use Rattle.ms_ir.specs.Inst.{result_type}
 use Rattle.ms_ir.specs.Func.{Placed, Block, FuncState, insts_at, no_block}
 use Rattle.ms_ir.specs.Graph.{graph_of, numbers, successors}
 use Rattle.ms_ir.specs.Locals.{HasType, IsGiver}
-use Rattle.ms_ir.specs.Uses.{Operand, Use, entry_use, used_at, operands_of, term_operands, uses_at, term_uses_at}
-use Rattle.ms_ir.specs.Sound.{HasOtherType, IsPathBefore, IsUsedBefore, HasOtherEdges, HasTwoValues, HasBadEntries, edges_between, times_in, from_of}
+use Rattle.ms_ir.specs.Uses.{Operand, Use, entry_use, used_at, term_operands, uses_at, term_uses_at}
+use Rattle.ms_ir.specs.Sound.{HasOtherType, IsPathBefore, IsUsedBefore, HasOtherEdges, HasTwoValues, HasBadEntries, edges_between, times_in}
 use Rattle.ms_valid.proofs.ListLemmas.{get_map, map_get}
 use Rattle.ms_again.specs.Same.{plain_param, plain_inst, plain_block, plain_func}
 

@@ -1,43 +1,37 @@
 -- The text of a module without faults is read as a draft of its items with the names that are printed.
-use Rattle.std.proofs.Common.{◌≡◌, ◌≤◌, ◌<◌, ◌+◌, ◌^◌, ℕ, zero, suc, Bool, true, false, List, [], ◌∷◌, ◌++◌, Option, Some, None, map, length, if◌then◌else◌, refl, sym, ap, subst, ◌∙◌, arith, append_assoc, length-append}
+use Rattle.std.proofs.Common.{◌≡◌, ◌≤◌, ◌<◌, ◌+◌, ◌^◌, ℕ, suc, Bool, true, false, List, [], ◌∷◌, ◌++◌, Option, Some, None, map, length, refl, sym, ap, subst, ◌∙◌, arith, length-append}
 use Rattle.std.proofs.lemmas.List.{length-map}
-use Rattle.std.specs.Prelude.{slice_get}
 use Rattle.std.specs.List.{flat_map}
-use Rattle.ms_ir.specs.declared.names.Name.{Name}
-use Rattle.ms_ir.specs.declared.names.Param.{Param}
 use Rattle.ms_ir.specs.declared.inst.Effects.{Effects}
 use Rattle.ms_grammar.specs.Kept.{Each}
 use Rattle.ms_grammar.specs.Parts.{Part, apart, post, text_of, part_text}
-use Rattle.ms_grammar.specs.Form.{printed, form, no_scale, word_part, front_parts, brace_parts, head_parts, further, listed, param_parts, dots_parts}
-use Rattle.ms_grammar.specs.Grammar.{kept_of}
+use Rattle.ms_grammar.specs.Form.{printed, word_part, front_parts, brace_parts, head_parts, further, listed, param_parts, dots_parts}
 use Rattle.ms_grammar.specs.declared.line.Head.{Head}
 use Rattle.ms_grammar.specs.declared.line.Line.{Line}
 use Rattle.ms_grammar.specs.declared.line.Line.TheVariants as said
 use Rattle.ms_grammar.specs.declared.keyword.Keyword.TheVariants as word
 use Rattle.ms_grammar.proofs.Printing.{text_of_append}
-use Rattle.ms_line.specs.Sorts.{sort_of}
 use Rattle.ms_read.specs.Rows.{rows_of}
-use Rattle.ms_read.specs.Places.{is_outside, is_blank, outset, Lead}
-use Rattle.ms_read.specs.Draft.{IsDraft, IsRead, Say, numbered}
+use Rattle.ms_read.specs.Draft.{IsDraft, Say}
 use Rattle.ms_read.specs.Told.{IsSaid, IsPlaced, sorts_of}
-use Rattle.ms_resolve.specs.Shape.{LabelLine, InstLine, BlockLines, FuncLines, ItemLines, plain, body, item_lines, func_lines, IsItem, IsShape}
-use Rattle.ms_resolve.specs.Made.{Made, makes, param_made, inst_made, block_made, made_in}
+use Rattle.ms_resolve.specs.Shape.{InstLine, BlockLines, FuncLines, ItemLines, plain, body, item_lines, func_lines, IsItem}
+use Rattle.ms_resolve.specs.Made.{makes, param_made, inst_made, block_made, made_in}
 use Rattle.ms_resolve.specs.Faults.{IsIn}
-use Rattle.ms_resolve.specs.Module.{names_of, module_of}
-use Rattle.ms_print.specs.Numbering.{shown_params, free_after}
-use Rattle.ms_print.specs.Text.{ended, module_text}
+use Rattle.ms_resolve.specs.Module.{module_of}
+use Rattle.ms_print.specs.Numbering.{free_after}
+use Rattle.ms_print.specs.Text.{module_text}
 use Rattle.ms_print.proofs.NumberingLemmas.{shown_params-length}
 use Rattle.ms_again.proofs.Renaming.{Renaming, renamed_term}
 use Rattle.ms_again.proofs.Renamed.{with_params}
-use Rattle.ms_again.proofs.Fine.{IsFine, each_first, each_second, read_fine, read_kept}
+use Rattle.ms_again.proofs.Fine.{IsFine, read_fine, read_kept}
 use Rattle.ms_again.proofs.Names.{shown, label_name, inst_free, block_free, made_if, blocks_size, size_of}
 use Rattle.ms_again.proofs.Again.{renaming, insts_said, label_said, block_said, blocks_said, start, func_said, gap_said, items_said, items_again, IsWholeItem, items_numbered}
 use Rattle.ms_again.proofs.Printed.{row_text, rows_text, module_rows}
-use Rattle.ms_again.proofs.Sites.{each_at, at_each, each_flat, IsFineEntry, IsFineFunc, fine_func}
+use Rattle.ms_again.proofs.Sites.{each_at, at_each, IsFineEntry, IsFineFunc, fine_func}
 use Rattle.ms_again.proofs.Known.{IsSound, IsFineItem, items_known}
-use Rattle.ms_again.proofs.Uses.{AreRight, are_right, lines_right}
+use Rattle.ms_again.proofs.Uses.{are_right, lines_right}
 use Rattle.ms_again.proofs.Lines.{IsFineNamed, IsFineWhole, items_fine, rows_are, all_say}
-use Rattle.ms_again.proofs.Placed.{sort_at, module_lead}
+use Rattle.ms_again.proofs.Placed.{module_lead}
 
 -- each thing that a function makes takes a byte of its text
 rows_long : (ls : List Line) → length ls ≤ length (rows_text ls)

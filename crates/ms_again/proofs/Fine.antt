@@ -1,5 +1,5 @@
 -- Lines with other names of locals and blocks are in the grammar and within its limits, where those are names and short.
-use Rattle.std.proofs.Common.{◌≡◌, ◌≤◌, ℕ, Bool, true, false, List, [], ◌∷◌, ◌++◌, Option, Some, None, map, length, if◌then◌else◌, refl, sym, ap, subst, ◌∙◌, arith}
+use Rattle.std.proofs.Common.{◌≡◌, ℕ, Bool, true, false, List, [], ◌∷◌, ◌++◌, Some, None, map, if◌then◌else◌, refl, sym, ap, subst, ◌∙◌, arith}
 use Rattle.std.specs.List.{flat_map}
 use Rattle.ms_ir.specs.declared.names.Ty.{Ty}
 use Rattle.ms_ir.specs.declared.names.Ty.TheVariants.{I1, Ptr}
@@ -8,9 +8,9 @@ use Rattle.ms_ir.specs.declared.names.Name.TheVariants as name
 use Rattle.ms_ir.specs.declared.names.Param.{Param}
 use Rattle.ms_grammar.specs.Kept.{Each}
 use Rattle.ms_grammar.specs.Form.{Scale, name_text, printed}
-use Rattle.ms_grammar.specs.Fits.{IsNamed, MayBeNamed, IsValue, IsArg, IsParam, IsEntryOf, FitsInst, FitsTerm, FitsHead, FitsLine, IsMade}
-use Rattle.ms_grammar.specs.Limits.{IsShort, names_of_value, names_of_arg, names_of_param, names_of_entry, names_of_inst, names_of_given, names_of_term, names_of_head, names_of, IsSmallInst, IsSmall, IsWithinLimits}
-use Rattle.ms_grammar.specs.Grammar.{Says, kept_of, without_name}
+use Rattle.ms_grammar.specs.Fits.{IsNamed, MayBeNamed, IsValue, IsArg, IsParam, IsEntryOf, FitsInst, FitsTerm, IsMade}
+use Rattle.ms_grammar.specs.Limits.{IsShort, names_of_value, names_of_arg, names_of_param, names_of_entry, names_of_inst, names_of_term, IsSmallInst, IsWithinLimits}
+use Rattle.ms_grammar.specs.Grammar.{kept_of, without_name}
 use Rattle.ms_grammar.specs.declared.line.Head.{Head}
 use Rattle.ms_grammar.specs.declared.line.Line.{Line}
 use Rattle.ms_grammar.specs.declared.line.Line.TheVariants as said
@@ -26,7 +26,7 @@ use Rattle.ms_line.specs.Cause.{IsRead}
 use Rattle.ms_print.specs.Numbering.{shown_params}
 use Rattle.ms_resolve.specs.Made.{makes}
 use Rattle.ms_resolve.specs.Used.{values_of, term_values, inst_blocks, term_blocks, arg_value, entry_value, entry_block}
-use Rattle.ms_again.proofs.Renaming.{Renaming, renamed_val, renamed_arg, renamed_entry, renamed_inst, renamed_given, renamed_term}
+use Rattle.ms_again.proofs.Renaming.{Renaming, renamed_val, renamed_arg, renamed_entry, renamed_inst, renamed_term}
 use Rattle.ms_again.proofs.Renamed.{with_params, define_back, inst_line_back, term_line_back, label_line_back}
 use Rattle.ms_again.proofs.Quiet.{IsPrinted, printed_by, kept_printed}
 
@@ -156,10 +156,12 @@ short_entries : (r : Renaming) (es : List RawEntry) → Shorts (flat_map names_o
     Shorts (flat_map names_of_entry (map (renamed_entry r) es))
 short_entries r [] h g b = tt
 short_entries r (e ∷ es) h g b =
-    let rest = h.1 in
-    (b.0.1, each_join IsShort (names_of_value (renamed_val r e.val)) (flat_map names_of_entry (map (renamed_entry r) es))
-    (short_val r e.val (each_first IsShort (names_of_value e.val) (flat_map names_of_entry es) rest) g.0)
-    (short_entries r es (each_second IsShort (names_of_value e.val) (flat_map names_of_entry es) rest) g.1 b.1))
+    let rest = h.1 in (
+      b.0.1,
+      each_join IsShort (names_of_value (renamed_val r e.val)) (flat_map names_of_entry (map (renamed_entry r) es))
+          (short_val r e.val (each_first IsShort (names_of_value e.val) (flat_map names_of_entry es) rest) g.0)
+          (short_entries r es (each_second IsShort (names_of_value e.val) (flat_map names_of_entry es) rest) g.1 b.1),
+    )
 
 short_inst : (r : Renaming) (i : RawInst) → Shorts (names_of_inst i) → Each (IsGoodVal r) (values_of i) → Each (IsGoodBlock r) (inst_blocks i) → Shorts (names_of_inst (renamed_inst r i))
 short_inst r (Alloca size head rest) h g b = tt

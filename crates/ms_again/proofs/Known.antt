@@ -1,24 +1,21 @@
 -- In a module without faults each global variable that a line uses is one, and each function that it calls is one.
-use Rattle.std.proofs.Common.{◌≡◌, ◌⊎◌, inl, inr, ⊎_elim, ℕ, zero, suc, Bool, true, false, List, [], ◌∷◌, ◌++◌, Option, Some, None, map, length, refl, sym, ap, subst, ◌∙◌}
+use Rattle.std.proofs.Common.{◌≡◌, ⊎_elim, ℕ, Bool, List, [], Some, length, refl}
 use Rattle.std.specs.Prelude.{slice_get}
 use Rattle.std.specs.List.{flat_map}
 use Rattle.ms_ir.specs.declared.names.Name.{Name}
 use Rattle.ms_ir.specs.declared.inst.Effects.{Effects}
-use Rattle.ms_ir.specs.Symbols.{NamesState}
 use Rattle.ms_grammar.specs.Kept.{Each}
 use Rattle.ms_grammar.specs.Form.{Scale, name_text}
 use Rattle.ms_grammar.specs.Fits.{IsWordName, FitsInst, FitsTerm}
-use Rattle.ms_grammar.specs.declared.line.Line.TheVariants as said
 use Rattle.ms_grammar.specs.declared.line.RawVal.{RawVal}
 use Rattle.ms_grammar.specs.declared.line.RawVal.TheVariants.{Num, Local, Global}
 use Rattle.ms_grammar.specs.declared.line.RawInst.{RawInst}
 use Rattle.ms_grammar.specs.declared.line.RawInst.TheVariants.{Alloca, Gep, Load, Store, Copy, Call, Bin, Cmp, Select, Cast, Phi}
 use Rattle.ms_resolve.specs.Shape.{InstLine, BlockLines, FuncLines, ItemLines, plain, body}
-use Rattle.ms_resolve.specs.Used.{values_of, term_values, callee_of, local_of, global_of, inst_names, term_names}
+use Rattle.ms_resolve.specs.Used.{values_of, term_values, callee_of, global_of, inst_names, term_names}
 use Rattle.ms_resolve.specs.Faults.{IsIn, StandsAt}
 use Rattle.ms_resolve.specs.Faults as named
 use Rattle.ms_resolve.specs.Cause.{NoNameFault}
-use Rattle.ms_resolve.specs.Scope.{func_of}
 use Rattle.ms_resolve.specs.Module.{names_of, scope_of, funcs_of, module_of}
 use Rattle.ms_resolve.proofs.Members.{in_among}
 use Rattle.ms_valid.specs.Cause.{HasNone}
@@ -72,15 +69,15 @@ inst_known effects keeps spare items sound p f at b k block x block_is line_is s
     record {
       values = vals_by items (values_of x.inst)
           (λ w on. ⊎_elim
-              (λ (g : IsIn (names_of items).funcs w). absurd (sound.types x.line (record { lines = f; f = built effects keeps spare items f; body = body; fault = valid.HasTypeFaultIn.func_operand b k x made.0 w here on g })))
-              (λ (g : IsIn (names_of items).globals w). g)
-              (symbol_known items f x.line (inst_names x.inst) sound.names il stands w (in_left (flat_map global_of (values_of x.inst)) (callee_of x.inst) w on)))
+          (λ (g : IsIn (names_of items).funcs w). absurd (sound.types x.line (record { lines = f; f = built effects keeps spare items f; body = body; fault = valid.HasTypeFaultIn.func_operand b k x made.0 w here on g })))
+          (λ (g : IsIn (names_of items).globals w). g)
+          (symbol_known items f x.line (inst_names x.inst) sound.names il stands w (in_left (flat_map global_of (values_of x.inst)) (callee_of x.inst) w on)))
           (inst_values scale x.inst fits);
       callee = callee_by items scale x.inst fits
           (λ w on. ⊎_elim
-              (λ (g : IsIn (names_of items).funcs w). g)
-              (λ (g : IsIn (names_of items).globals w). absurd (sound.types x.line (record { lines = f; f = built effects keeps spare items f; body = body; fault = valid.HasTypeFaultIn.global_called b k x made.0 w here on g })))
-              (symbol_known items f x.line (inst_names x.inst) sound.names il stands w (in_right (flat_map global_of (values_of x.inst)) (callee_of x.inst) w on)));
+          (λ (g : IsIn (names_of items).funcs w). g)
+          (λ (g : IsIn (names_of items).globals w). absurd (sound.types x.line (record { lines = f; f = built effects keeps spare items f; body = body; fault = valid.HasTypeFaultIn.global_called b k x made.0 w here on g })))
+          (symbol_known items f x.line (inst_names x.inst) sound.names il stands w (in_right (flat_map global_of (values_of x.inst)) (callee_of x.inst) w on)));
     }
 
 term_known : (effects : List ℕ → Effects) (keeps : List ℕ → Bool) (spare : List ℕ → ℕ) (items : List ItemLines) → IsSound effects keeps spare items → (p : ℕ) (f : FuncLines) → slice_get (funcs_of items) p ≡ Some f →

@@ -1,29 +1,24 @@
 -- Each line that is printed for a module without faults is said by its row, and the text is those rows.
-use Rattle.std.proofs.Common.{◌≡◌, ◌≤◌, ◌<◌, ◌+◌, ◌^◌, ◌==◌, ◌⊎◌, inl, inr, ⊎_elim, ℕ, zero, suc, Bool, true, false, List, [], ◌∷◌, ◌++◌, Option, Some, None, map, length, if◌then◌else◌, refl, sym, ap, subst, ◌∙◌, arith, append_assoc, is_some}
-use Rattle.std.specs.Prelude.{slice_index, nat_eq}
-use Rattle.std.specs.List.{flat_map}
-use Rattle.ms_lex.specs.Line.{IsTokens}
+use Rattle.std.proofs.Common.{◌≡◌, ◌≤◌, ◌^◌, ℕ, Bool, true, false, List, [], ◌∷◌, ◌++◌, Option, Some, None, map, if◌then◌else◌, refl, ap, subst, ◌∙◌, arith, append_assoc, is_some}
 use Rattle.ms_ir.specs.declared.names.Name.{Name}
 use Rattle.ms_ir.specs.declared.names.Name.TheVariants.{Word, Number, Absent}
 use Rattle.ms_ir.specs.declared.names.Param.{Param}
 use Rattle.ms_grammar.specs.Kept.{Each}
 use Rattle.ms_grammar.specs.Form.{printed, no_scale}
-use Rattle.ms_grammar.specs.Grammar.{Says}
 use Rattle.ms_grammar.specs.declared.line.Line.{Line}
 use Rattle.ms_grammar.specs.declared.line.Line.TheVariants as said
-use Rattle.ms_resolve.specs.Shape.{LabelLine, InstLine, BlockLines, FuncLines, ItemLines, plain, body, label_lines, item_lines, func_lines, HasLabel, HasBlocks, IsItem}
+use Rattle.ms_resolve.specs.Shape.{LabelLine, InstLine, BlockLines, FuncLines, ItemLines, plain, body, label_lines, HasLabel, HasBlocks, IsItem}
 use Rattle.ms_resolve.specs.Made.{makes}
 use Rattle.ms_read.specs.Rows.{rows_of, in_first}
 use Rattle.ms_read.specs.Draft.{Say}
 use Rattle.ms_print.specs.Numbering.{shown_name, free_after, shown_params}
-use Rattle.ms_print.specs.Text.{ended}
 use Rattle.ms_reread.proofs.Places.{whole_tokens, gap_none}
-use Rattle.ms_again.proofs.Renaming.{Renaming, renamed_inst, renamed_term}
-use Rattle.ms_again.proofs.Quiet.{IsPrinted, IsQuiet}
-use Rattle.ms_again.proofs.Fine.{IsFine, IsGood, IsGoodParam, made_name, inst_fine, term_fine, label_fine, define_fine, each_join, each_first, each_second}
-use Rattle.ms_again.proofs.Names.{shown, label_name, param_names, params_free, inst_free, block_free, results, result_of, all_results, block_names, locals_listed, blocks_listed, size_of}
-use Rattle.ms_again.proofs.Again.{renaming, inst_said, insts_said, first_said, label_said, block_said, blocks_said, start, func_said, gap_said, items_said}
-use Rattle.ms_again.proofs.Printed.{row_text, rows_text}
+use Rattle.ms_again.proofs.Renaming.{renamed_term}
+use Rattle.ms_again.proofs.Quiet.{IsQuiet}
+use Rattle.ms_again.proofs.Fine.{IsFine, IsGood, IsGoodParam, inst_fine, term_fine, label_fine, define_fine, each_join, each_first, each_second}
+use Rattle.ms_again.proofs.Names.{shown, label_name, param_names, inst_free, block_free, results, result_of, all_results, block_names, size_of}
+use Rattle.ms_again.proofs.Again.{renaming, insts_said, first_said, label_said, block_said, blocks_said, start, func_said, gap_said, items_said}
+use Rattle.ms_again.proofs.Printed.{rows_text}
 use Rattle.ms_again.proofs.Sites.{IsFineEntry, IsFineBlock, IsFineFunc}
 use Rattle.ms_again.proofs.Uses.{AreRight, IsRightInst, IsRightLines, good_vals, good_froms}
 
@@ -118,10 +113,11 @@ func_fine : (f : FuncLines) → HasBlocks f.blocks → IsFineNamed f → Each Is
 func_fine f has h =
     let ps = param_names shown 0 f.head.params in
     let rest = all_results shown (start f) f.blocks in
-    let close : List Line = said.Close ∷ [] in
-    (define_fine f.head h.fine.define (params_good 0 f.head.params (each_first IsGood ps rest h.names.locals_good)),
-    each_join IsFine (blocks_said (renaming f) true (start f) f.blocks) close
-    (all_blocks f (start f) f.blocks has h.fine.blocks h.uses (each_second IsGood ps rest h.names.locals_good) h.names.blocks_good) (h.fine.close, tt))
+    let close : List Line = said.Close ∷ [] in (
+      define_fine f.head h.fine.define (params_good 0 f.head.params (each_first IsGood ps rest h.names.locals_good)),
+      each_join IsFine (blocks_said (renaming f) true (start f) f.blocks) close
+          (all_blocks f (start f) f.blocks has h.fine.blocks h.uses (each_second IsGood ps rest h.names.locals_good) h.names.blocks_good) (h.fine.close, tt),
+    )
 
 -- items
 abbrev pub IsFineWhole : ItemLines → Type 0

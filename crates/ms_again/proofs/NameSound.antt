@@ -1,10 +1,9 @@
 -- The printed items have no fault in their names where the items have none.
-use Rattle.std.proofs.Common.{◌≡◌, ◌≤◌, ◌<◌, ◌+◌, ◌^◌, ◌⊎◌, inl, inr, ⊎_elim, ℕ, zero, suc, Bool, true, false, List, [], ◌∷◌, ◌++◌, Option, Some, None, map, length, refl, sym, ap, subst, ◌∙◌, arith}
+use Rattle.std.proofs.Common.{◌≡◌, ◌+◌, ℕ, zero, suc, Bool, true, false, List, [], ◌∷◌, ◌++◌, Option, Some, None, map, length, refl, sym, ap, subst, ◌∙◌, arith}
 use Rattle.std.specs.Prelude.{slice_get}
 use Rattle.std.specs.List.{flat_map}
 use Rattle.ms_ir.specs.declared.names.Name.{Name}
 use Rattle.ms_grammar.specs.Kept.{Each}
-use Rattle.ms_grammar.specs.Form.{name_text}
 use Rattle.ms_grammar.specs.declared.line.Line.{Line}
 use Rattle.ms_grammar.specs.declared.line.RawVal.{RawVal}
 use Rattle.ms_grammar.specs.declared.line.RawVal.TheVariants.{Num, Local, Global}
@@ -15,7 +14,7 @@ use Rattle.ms_grammar.specs.declared.line.RawInst.TheVariants.{Alloca, Gep, Load
 use Rattle.ms_grammar.specs.declared.line.RawTerm.{RawTerm}
 use Rattle.ms_grammar.specs.declared.line.RawTerm.TheVariants.{Br, CondBr, Ret, Unreachable}
 use Rattle.ms_resolve.specs.Shape.{InstLine, BlockLines, FuncLines, ItemLines, plain, body}
-use Rattle.ms_resolve.specs.Made.{Made, made_in, named_in, locals_of, blocks_of, name_of_made}
+use Rattle.ms_resolve.specs.Made.{made_in, named_in, blocks_of, name_of_made}
 use Rattle.ms_resolve.specs.Used.{Names, values_of, term_values, inst_blocks, term_blocks, callee_of, local_of, global_of, arg_value, entry_value, entry_block, inst_names, term_names}
 use Rattle.ms_resolve.specs.Faults.{IsIn, IsNotIn, Symbol, symbols_of, name_of_symbol, IsSymbolAgain, IsMadeAgain, StandsAt, UsesUnknown, HasFaultIn, HasNameFault}
 use Rattle.ms_resolve.specs.Faults as named
@@ -24,8 +23,8 @@ use Rattle.ms_resolve.proofs.Members.{among_in}
 use Rattle.ms_valid.proofs.ListLemmas.{in_nil, in_one, in_flat, get_map, map_get}
 use Rattle.ms_again.proofs.Renaming.{Renaming, renamed_val, renamed_arg, renamed_entry, renamed_inst, renamed_term}
 use Rattle.ms_again.proofs.Right.{AreApart, apart_at, names_in}
-use Rattle.ms_again.proofs.Names.{shown, named_by, locals_listed, blocks_listed, block_free, inst_free, label_name}
-use Rattle.ms_again.proofs.Again.{renaming, insts_said, label_said, block_said, insts_again, block_again, blocks_again, start, func_said, gap_said, func_again, items_again}
+use Rattle.ms_again.proofs.Names.{shown, locals_listed, blocks_listed, block_free, inst_free, label_name}
+use Rattle.ms_again.proofs.Again.{renaming, label_said, block_said, insts_again, block_again, blocks_again, start, func_said, gap_said, func_again, items_again}
 use Rattle.ms_again.proofs.AgainNames.{locals_again, blocks_are_again, names_again, none_small, func_made}
 use Rattle.ms_again.proofs.Sites.{at_each, known_symbols, symbol_in}
 use Rattle.ms_again.proofs.Uses.{IsRightVal, IsRightBlock, IsRightUse, IsRightInst, IsRightLines}
@@ -39,9 +38,6 @@ pub record FromFunc (items : List ItemLines) (k : ℕ) (new : FuncLines) : Type 
   pub f : FuncLines
   pub there : slice_get items k ≡ Some (body f)
   pub is : new ≡ func_again row f
-
-same_item : (x y : ItemLines) → Some x ≡ Some y → x ≡ y
-same_item x y e = cc
 
 same_body : (f g : FuncLines) → Some (body f) ≡ Some (body g) → f ≡ g
 same_body f g e = cc
@@ -272,8 +268,15 @@ symbols_apart items sound n h =
     let one = get_map name_of_symbol old h.first h.one.name (ap (λ (ws : List (List ℕ)). slice_get ws h.first) (sym same) ∙ map_get name_of_symbol new h.first h.one h.first_is) in
     let two = get_map name_of_symbol old h.at h.other.name (ap (λ (ws : List (List ℕ)). slice_get ws h.at) (sym same) ∙ map_get name_of_symbol new h.at h.other h.at_is) in
     sound two.0.line (named.HasNameFault.symbol (record {
-      first = h.first; at = h.at; before = h.before; one = one.0; other = two.0; first_is = one.1; at_is = two.1;
-      same = one.2 ∙ h.same ∙ sym two.2; on = refl;
+      first = h.first;
+      at = h.at;
+      before = h.before;
+      one = one.0;
+      other = two.0;
+      first_is = one.1;
+      at_is = two.1;
+      same = one.2 ∙ h.same ∙ sym two.2;
+      on = refl;
     }))
 
 pub names_sound : (items : List ItemLines) → NoNameFault items → AreNamed items → NoNameFault (items_again 1 None items)

@@ -1,17 +1,16 @@
 -- The names of what a function makes, along its lines: those that it gets, and those that are printed.
-use Rattle.std.proofs.Common.{◌≡◌, ◌≤◌, ◌<◌, ◌+◌, ◌^◌, ◌==◌, ◌⊎◌, inl, inr, ⊎_elim, ℕ, zero, suc, Bool, true, false, cond, List, [], ◌∷◌, ◌++◌, Option, Some, None, map, length, if◌then◌else◌, refl, sym, ap, subst, ◌∙◌, arith, append_assoc}
+use Rattle.std.proofs.Common.{◌≡◌, ◌+◌, ℕ, suc, Bool, true, false, List, [], ◌∷◌, ◌++◌, Option, Some, None, map, length, if◌then◌else◌, refl, sym, ap, subst, ◌∙◌, append_assoc}
 use Rattle.std.specs.Prelude.{filter, not, slice_index_or}
 use Rattle.std.specs.List.{flat_map}
-use Rattle.std.proofs.lemmas.Bool.{cases_Bool}
-use Rattle.std.proofs.lemmas.List.{append-nil, map-append, get_or_at}
+use Rattle.std.proofs.lemmas.List.{map-append, get_or_at}
 use Rattle.std.proofs.lemmas.List.Elements.{filter-append}
 use Rattle.ms_ir.specs.declared.names.Name.{Name}
-use Rattle.ms_ir.specs.declared.names.Name.TheVariants.{Word, Number, Absent}
+use Rattle.ms_ir.specs.declared.names.Name.TheVariants.{Absent}
 use Rattle.ms_ir.specs.declared.names.Param.{Param}
 use Rattle.ms_resolve.specs.Shape.{LabelLine, InstLine, BlockLines, FuncLines}
-use Rattle.ms_resolve.specs.Made.{Made, makes, param_made, inst_made, label_made, block_made, made_in, full_name, free_behind, named_from, named_in, name_of_made, locals_of, blocks_of}
+use Rattle.ms_resolve.specs.Made.{Made, makes, param_made, inst_made, label_made, block_made, made_in, full_name, free_behind, named_from, name_of_made, locals_of, blocks_of}
 use Rattle.ms_resolve.specs.Scope.{locals_behind}
-use Rattle.ms_print.specs.Numbering.{numbered, shown_name, free_after, shown_params, free_after_params, name_of_param}
+use Rattle.ms_print.specs.Numbering.{shown_name, free_after}
 
 -- how names are given: the name of a thing, where this number is the next free one, and the next free number behind it
 pub record Naming : Type 0 where
@@ -298,7 +297,7 @@ blocks_along g names labels pre before next l b (x ∷ xs) h k =
       here labels before (g.name next (label_name x.label)) (block_names g (block_free g next x) xs) b k,
       r.0,
       blocks_along g names labels past.pre (before ++ g.name next (label_name x.label) ∷ []) (block_free g next x) (locals_behind l x.insts) (suc b) xs past.place
-      (one_more labels before (g.name next (label_name x.label)) (block_names g (block_free g next x) xs) b k),
+          (one_more labels before (g.name next (label_name x.label)) (block_names g (block_free g next x) xs) b k),
     )
 
 pub param_count : (g : Naming) (next : ℕ) (ps : List Param) → length (param_names g next ps) ≡ length ps

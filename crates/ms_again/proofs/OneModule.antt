@@ -1,5 +1,5 @@
 -- A draft is accepted as one module, but for the room of its functions.
-use Rattle.std.proofs.Common.{◌≡◌, ◌<◌, ◌^◌, ℕ, Bool, List, [], ◌∷◌, ◌++◌, Option, Some, None, map, length, refl, sym, ap, subst, ◌∙◌}
+use Rattle.std.proofs.Common.{◌≡◌, ℕ, Bool, List, [], ◌∷◌, ◌++◌, Option, Some, None, map, refl, sym, ap, subst, ◌∙◌}
 use Rattle.std.specs.List.{flat_map}
 use Rattle.std.specs.Option.{option_map}
 use Rattle.std.proofs.lemmas.List.{map-append}
@@ -10,20 +10,17 @@ use Rattle.ms_ir.specs.Func.{FuncState}
 use Rattle.ms_ir.specs.Module.{ModuleState}
 use Rattle.ms_grammar.specs.declared.line.Line.{Line}
 use Rattle.ms_grammar.specs.declared.line.Line.TheVariants as said
-use Rattle.ms_print.specs.Text.{module_text}
 use Rattle.ms_read.specs.Draft.{IsDraft}
 use Rattle.ms_read.proofs.OneDraft.{one_draft}
-use Rattle.ms_resolve.specs.Shape.{FuncLines, ItemLines, plain, body, item_lines, IsShape}
+use Rattle.ms_resolve.specs.Shape.{FuncLines, ItemLines, plain, body}
 use Rattle.ms_resolve.specs.Meaning.{effects_in, keeps_in}
 use Rattle.ms_resolve.specs.Scope.{Scope, func_of}
-use Rattle.ms_resolve.specs.Module.{groups_of, bodies_in, scope_of, module_of, IsModuleOf}
+use Rattle.ms_resolve.specs.Module.{groups_of, bodies_in, scope_of, module_of}
 use Rattle.ms_resolve.specs.Draft.{symbols_after, no_symbols}
 use Rattle.ms_resolve.specs.Build.{bare, bare_module, built}
 use Rattle.ms_resolve.proofs.ModuleFacts.{built_is}
 use Rattle.ms_valid.specs.Cause.{IsAccepted}
 use Rattle.ms_again.specs.Same.{plain_func, plain_module, IsSameModule}
-use Rattle.ms_again.specs.Again.{IsReadAgain}
-use Rattle.ms_again.proofs.SameText.{same_text}
 
 -- the bodies of items but for their room
 no_bodies : (scope : FuncLines → Scope) (spare : List ℕ → ℕ) (n : ℕ) (l : Line) → bodies_in scope spare (plain n l) ≡ bodies_in scope (λ w. 0) (plain n l)
@@ -86,10 +83,8 @@ module_bare m = ap (λ bs. let x : ModuleState = record m { bodies = bs } in x) 
 same_by_room : (m n : ModuleState) → bare_module m ≡ bare_module n → IsSameModule m n
 same_by_room m n e = record { same = sym (module_bare m) ∙ ap plain_module e ∙ module_bare n }
 
--- whatever the text is read and accepted as is the same module
-pub only_same : (m : ModuleState) → IsReadAgain m → (draft : List (ℕ × Line)) (n : ModuleState) → IsDraft (module_text m) draft → IsAccepted draft n → IsSameModule m n
-only_same m again draft n read accepted =
-    let e : again.draft ≡ draft = one_draft (module_text m) again.draft draft again.read read in
-    let there : IsAccepted draft again.other = subst (λ (d : List (ℕ × Line)). IsAccepted d again.other) e again.accepted in
-    let same = same_by_room again.other n (one_module draft again.other n there accepted) in
-    record { same = again.same.same ∙ same.same }
+-- whatever a text is read and accepted as is the same module
+pub only_same : (text : List ℕ) (draft other : List (ℕ × Line)) (m n : ModuleState) → IsDraft text draft → IsAccepted draft m → IsDraft text other → IsAccepted other n → IsSameModule m n
+only_same text draft other m n read accepted again there =
+    let e : other ≡ draft = one_draft text other draft again read in
+    same_by_room m n (one_module draft m n accepted (subst (λ (d : List (ℕ × Line)). IsAccepted d n) e there))

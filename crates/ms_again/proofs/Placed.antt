@@ -1,5 +1,5 @@
 -- The lines that are printed may stand behind one another where the lines of the module may.
-use Rattle.std.proofs.Common.{◌≡◌, ◌≤◌, ◌<◌, ◌+◌, ℕ, zero, suc, Bool, true, false, List, [], ◌∷◌, ◌++◌, Option, Some, None, map, length, refl, sym, ap, subst, ◌∙◌, arith, append_assoc}
+use Rattle.std.proofs.Common.{◌≡◌, ◌+◌, ℕ, Bool, true, false, List, [], ◌∷◌, ◌++◌, Option, Some, None, map, refl, sym, ap, subst, ◌∙◌, arith, append_assoc}
 use Rattle.std.specs.Prelude.{is_some}
 use Rattle.std.specs.List.{flat_map}
 use Rattle.std.proofs.lemmas.List.{map-append}
@@ -16,12 +16,12 @@ use Rattle.ms_line.specs.declared.sort.Sort.TheVariants as sort
 use Rattle.ms_read.specs.declared.place.Place.{Place}
 use Rattle.ms_read.specs.declared.place.Place.TheVariants.{Outside, Begun, Front, Inner, Ended}
 use Rattle.ms_read.specs.declared.place.Progress.{Progress}
-use Rattle.ms_read.specs.Places.{behind, counted, next_place, begins_block, AreFew, Lead, outset}
+use Rattle.ms_read.specs.Places.{behind, begins_block, AreFew, Lead, outset}
 use Rattle.ms_resolve.specs.Shape.{LabelLine, InstLine, BlockLines, FuncLines, ItemLines, plain, body, label_lines, inst_line, block_lines, func_lines, item_lines, HasLabel, HasBlocks, IsItem}
-use Rattle.ms_print.specs.Numbering.{shown_name, free_after}
+use Rattle.ms_print.specs.Numbering.{free_after}
 use Rattle.ms_again.proofs.Renaming.{Renaming, renamed_inst, renamed_term}
 use Rattle.ms_again.proofs.Names.{shown, label_name, inst_free, block_free}
-use Rattle.ms_again.proofs.Again.{renaming, inst_said, insts_said, first_said, label_said, block_said, blocks_said, start, func_said, gap_said, items_said}
+use Rattle.ms_again.proofs.Again.{renaming, insts_said, first_said, label_said, block_said, blocks_said, start, func_said, gap_said, items_said}
 
 -- lines in two
 lead_join : (at mid end : Progress) (xs ys : List Sort) → Lead at xs mid → Lead mid ys end → Lead at (xs ++ ys) end
@@ -44,13 +44,6 @@ lead_few at end [] few h = subst (λ p. AreFew p) h few
 lead_few at end (x ∷ xs) few h = lead_few h.0 end xs h.2 h.3
 
 -- an empty line may stand anywhere, and changes nothing
-blank_begins : (p : Place) → begins_block p sort.Blank ≡ false
-blank_begins Outside = refl
-blank_begins Begun = refl
-blank_begins (Front b) = refl
-blank_begins (Inner b) = refl
-blank_begins Ended = refl
-
 blank_stays : (at : Progress) → behind at sort.Blank ≡ Some at
 blank_stays at = by at.place at.functions at.blocks at.insts
   where

@@ -1,16 +1,15 @@
 -- A function as its lines give it, without written numbers: by the names that its lines have.
-use Rattle.std.proofs.Common.{◌≡◌, ◌≤◌, ◌<◌, ◌+◌, ◌==◌, ◌⊎◌, inl, inr, ℕ, zero, suc, Bool, true, false, List, [], ◌∷◌, ◌++◌, Option, Some, None, map, length, if◌then◌else◌, refl, sym, ap, subst, ◌∙◌, arith}
-use Rattle.std.specs.Prelude.{slice_index_or, is_some}
-use Rattle.std.proofs.lemmas.Bool.{cases_Bool}
+use Rattle.std.proofs.Common.{◌≡◌, ◌+◌, ℕ, suc, Bool, true, false, List, [], ◌∷◌, ◌++◌, Some, None, map, length, if◌then◌else◌, refl, sym, ap, subst, ◌∙◌}
+use Rattle.std.specs.Prelude.{slice_index_or}
 use Rattle.ms_ir.specs.declared.names.Name.{Name}
 use Rattle.ms_ir.specs.declared.names.Name.TheVariants.{Word, Number, Absent}
 use Rattle.ms_ir.specs.declared.names.Param.{Param}
 use Rattle.ms_ir.specs.Func.{Placed, Block, FuncState}
-use Rattle.ms_resolve.specs.Shape.{LabelLine, InstLine, BlockLines, FuncLines}
+use Rattle.ms_resolve.specs.Shape.{InstLine, BlockLines, FuncLines}
 use Rattle.ms_resolve.specs.Made.{makes, full_name, free_behind, locals_of, blocks_of}
-use Rattle.ms_resolve.specs.Scope.{Scope, inst_of, term_of, placed_at, local_behind, insts_from, locals_behind, blocks_from, all_made, all_locals, params_from, func_of}
+use Rattle.ms_resolve.specs.Scope.{Scope, inst_of, term_of, local_behind, insts_from, locals_behind, blocks_from, all_made, all_locals, params_from, func_of}
 use Rattle.ms_again.specs.Same.{own_name, plain_param, plain_inst, plain_block, plain_func}
-use Rattle.ms_again.proofs.Names.{Naming, full, label_name, param_names, params_free, inst_free, block_free, results, all_results, block_names, locals_listed, blocks_listed, locals_full, blocks_full, AlongInsts, AlongBlocks, func_along, Place, one_more, here}
+use Rattle.ms_again.proofs.Names.{full, label_name, param_names, params_free, inst_free, block_free, all_results, locals_listed, blocks_listed, locals_full, blocks_full, AlongInsts, AlongBlocks, func_along, Place, one_more, here}
 
 -- an instruction and a block by the names of their lines
 abbrev pub plain_at : Scope → ℕ → ℕ → InstLine → Placed
@@ -91,8 +90,15 @@ func_plain s spare f locals blocks =
     let Q : List Name → Type 0 = λ ns. AlongBlocks full (locals_listed full f) ns (params_free full 0 f.head.params) (length f.head.params) 0 f.blocks in
     let along = subst P (sym names) (subst Q (sym labels) (func_along full f)) in
     let F : List Param → List Block → FuncState = λ ps bs. record {
-      name = f.head.name; head = f.head.attrs; ret = f.head.ret; params = ps; tail = f.head.post; blocks = bs;
-      made = all_made 0 f.blocks; locals = all_locals (length f.head.params) f.blocks; spare = 0;
+      name = f.head.name;
+      head = f.head.attrs;
+      ret = f.head.ret;
+      params = ps;
+      tail = f.head.post;
+      blocks = bs;
+      made = all_made 0 f.blocks;
+      locals = all_locals (length f.head.params) f.blocks;
+      spare = 0;
     } in
     ap (λ ps. F ps (map plain_block (blocks_from s 0 0 (length f.head.params) f.blocks)))
     (params_plain s [] (all_results full (params_free full 0 f.head.params) f.blocks) 0 0 f.head.params (record { split = names; count = refl }))

@@ -1,5 +1,5 @@
 -- The text of a module is the printed forms of its lines with the names that are printed, and empty lines between.
-use Rattle.std.proofs.Common.{◌≡◌, ◌≤◌, ◌<◌, ◌+◌, ◌==◌, ◌||◌, ℕ, zero, suc, Bool, true, false, List, [], ◌∷◌, ◌++◌, Option, Some, None, map, length, if◌then◌else◌, refl, sym, ap, subst, ◌∙◌, arith, append_assoc}
+use Rattle.std.proofs.Common.{◌≡◌, ◌+◌, ◌==◌, ℕ, zero, suc, Bool, true, false, List, [], ◌∷◌, ◌++◌, Option, Some, None, map, length, if◌then◌else◌, refl, sym, ap, ◌∙◌, arith, append_assoc}
 use Rattle.std.specs.Prelude.{slice_index_or, slice_get}
 use Rattle.std.specs.List.{flat_map}
 use Rattle.std.proofs.lemmas.List.{append-nil}
@@ -9,12 +9,10 @@ use Rattle.ms_ir.specs.declared.names.Name.{Name}
 use Rattle.ms_ir.specs.declared.names.Name.TheVariants.{Word, Number, Absent}
 use Rattle.ms_ir.specs.declared.names.Ty.{Ty}
 use Rattle.ms_ir.specs.declared.names.Mark.{Mark}
-use Rattle.ms_ir.specs.declared.names.Param.{Param}
-use Rattle.ms_ir.specs.declared.names.LocalNo.{LocalNo}
 use Rattle.ms_ir.specs.declared.inst.Effects.{Effects}
 use Rattle.ms_ir.specs.Symbols.{NamesState}
-use Rattle.ms_ir.specs.Func.{Placed, Block, FuncState}
-use Rattle.ms_ir.specs.Module.{ModuleState, body_in, body_of}
+use Rattle.ms_ir.specs.Func.{FuncState}
+use Rattle.ms_ir.specs.Module.{body_in, body_of}
 use Rattle.ms_grammar.specs.Kept.{Each}
 use Rattle.ms_grammar.specs.Parts.{Part, blank, kept, part_text, text_of, behind_blank, copy_head, call_head}
 use Rattle.ms_grammar.specs.Form.{no_scale, printed, name_text, word_part, inst_parts, result_parts, end_parts, copy_pointers, copy_length, call_front, listed, arg_parts}
@@ -31,24 +29,24 @@ use Rattle.ms_grammar.specs.declared.line.RawInst.TheVariants.{Alloca, Gep, Load
 use Rattle.ms_grammar.specs.declared.line.RawTerm.{RawTerm}
 use Rattle.ms_grammar.specs.declared.line.RawTerm.TheVariants.{Br, CondBr, Ret, Unreachable}
 use Rattle.ms_grammar.proofs.Printing.{text_of_append}
-use Rattle.ms_resolve.specs.Shape.{LabelLine, InstLine, BlockLines, FuncLines, ItemLines, plain, body, stands_outside, IsItem}
-use Rattle.ms_resolve.specs.Made.{makes, locals_of, blocks_of}
+use Rattle.ms_resolve.specs.Shape.{InstLine, BlockLines, FuncLines, ItemLines, plain, body, IsItem}
+use Rattle.ms_resolve.specs.Made.{makes}
 use Rattle.ms_resolve.specs.Used.{values_of, term_values, arg_value, entry_value}
-use Rattle.ms_resolve.specs.Scope.{Scope, number_of_name, number_of_word, value_of, block_of, arg_of, args_of, entry_of, keeps_at, behind_first, inst_of, term_of, local_behind, locals_behind, func_of}
+use Rattle.ms_resolve.specs.Scope.{Scope, number_of_name, number_of_word, value_of, arg_of, args_of, entry_of, behind_first, inst_of, term_of, local_behind, locals_behind, func_of}
 use Rattle.ms_resolve.specs.Module.{names_of, scope_of, bodies_in, items_from, module_of}
 use Rattle.ms_print.specs.Numbering.{shown_name, free_after, shown_params}
-use Rattle.ms_print.specs.Lines.{Shown, shown_in, label_of, word_at, raw_val, raw_arg, raw_entry, raw_inst, raw_term, result_name, inst_line, term_line, label_line, define_line, define_with}
-use Rattle.ms_print.specs.Text.{ended, insts_text, first_label, label_text, block_text, blocks_text, func_text, no_notes, body_text, item_text, has_body, gap, items_text, module_text}
-use Rattle.ms_again.specs.Same.{own_name, plain_param, plain_func}
-use Rattle.ms_again.proofs.Renaming.{Renaming, renamed_val, renamed_arg, renamed_entry, renamed_inst, renamed_given, renamed_term}
+use Rattle.ms_print.specs.Lines.{Shown, label_of, word_at, raw_val, raw_arg, raw_entry, raw_inst, raw_term, result_name, inst_line, term_line, label_line, define_line}
+use Rattle.ms_print.specs.Text.{ended, insts_text, first_label, label_text, block_text, blocks_text, func_text, no_notes, body_text, gap, items_text, module_text}
+use Rattle.ms_again.specs.Same.{own_name, plain_param}
+use Rattle.ms_again.proofs.Renaming.{Renaming, renamed_val, renamed_arg, renamed_entry, renamed_inst, renamed_term}
 use Rattle.ms_again.proofs.SameText.{params_plain, func_plain}
 use Rattle.ms_again.proofs.Plain as plain_lines
 use Rattle.ms_again.proofs.Plain.{plain_at, plain_insts, plain_blocks, plain_of}
 use Rattle.ms_again.proofs.Renamed.{with_params}
 use Rattle.ms_again.proofs.Fine.{made_name}
-use Rattle.ms_again.proofs.Names.{shown, label_name, inst_free, block_free, params_free, locals_listed, blocks_listed, AlongInsts, AlongBlocks, func_along}
+use Rattle.ms_again.proofs.Names.{shown, label_name, inst_free, block_free, locals_listed, AlongInsts, AlongBlocks, func_along}
 use Rattle.ms_again.proofs.ShownNames.{shown_by, shown_is}
-use Rattle.ms_again.proofs.Again.{renaming, inst_said, insts_said, first_said, label_said, block_said, blocks_said, start, func_said, gap_said, items_said}
+use Rattle.ms_again.proofs.Again.{renaming, inst_said, insts_said, label_said, block_said, blocks_said, start, func_said, gap_said, items_said}
 
 -- the row of a line
 abbrev pub row_text : Line → List ℕ

@@ -1,11 +1,11 @@
 -- What is printed for a line holds no line feed, and is said by its printed form.
-use Rattle.std.proofs.Common.{◌≡◌, ◌==◌, ◌≤◌, ◌<◌, ◌+◌, ◌-◌, ℕ, zero, suc, Bool, true, false, List, [], ◌∷◌, ◌++◌, length, map, take, drop, get_or, slice_index, slice_range, refl, sym, ap, subst, ◌∙◌, inl, inr, arith}
+use Rattle.std.proofs.Common.{◌≡◌, ◌==◌, ◌≤◌, ◌<◌, ◌+◌, ◌-◌, ℕ, zero, suc, Bool, true, false, List, [], ◌∷◌, ◌++◌, length, map, drop, get_or, slice_range, refl, sym, ap, subst, ◌∙◌, inl, inr, arith}
 use Rattle.std.specs.List.{list_all}
 use Rattle.std.specs.Char.{is_ascii_digit}
 use Rattle.std.proofs.lemmas.List.{append-nil, get_or-take, get_or-drop}
 use Rattle.std.proofs.lemmas.Bool.{and_parts, or_cases, eqb-true, false_from_ne_true, both_ways, false≢true, cases_lt}
 use Rattle.ms_lex.specs.Bytes.{starts_word, continues_word, is_separator, is_mark, is_quotable}
-use Rattle.ms_lex.specs.Kinds.{is_token, is_word, is_digits, is_name, is_number, is_quotation, is_one_mark, opens, behind}
+use Rattle.ms_lex.specs.Kinds.{is_token, is_word, is_digits, is_name, is_quotation, is_one_mark, opens, behind}
 use Rattle.ms_lex.specs.Line.{EndsAfter}
 use Rattle.ms_lex.specs.declared.token.Token.{Token}
 use Rattle.ms_lex.specs.declared.token.TokenKind.{TokenKind}
@@ -21,7 +21,7 @@ use Rattle.ms_grammar.specs.declared.line.Line.TheVariants as said
 use Rattle.ms_grammar.specs.declared.line.RawInst.{RawInst}
 use Rattle.ms_grammar.specs.declared.line.RawInst.TheVariants.{Gep}
 use Rattle.ms_grammar.proofs.Printing.{text_of_append}
-use Rattle.ms_reread.proofs.Places.{Stands, Run, Gap, follow_map, whole_tokens}
+use Rattle.ms_reread.proofs.Places.{Stands, Run, follow_map, whole_tokens}
 use Rattle.ms_reread.proofs.Moves.{Old}
 use Rattle.ms_reread.proofs.Pieces.{Said, Back}
 use Rattle.ms_reread.proofs.Lines.{line_back}

@@ -1,7 +1,6 @@
 -- An accepted module that is printed is read and accepted as the same module, and prints the same text.
-use Rattle.std.proofs.Common.{◌≡◌, ◌<◌, ◌^◌, ℕ, List, [], ◌∷◌, Option, Some, None, length, refl, sym, ap, subst, ◌∙◌, arith}
+use Rattle.std.proofs.Common.{◌≡◌, ◌<◌, ◌^◌, ℕ, List, None, length, refl, sym, ap, subst, ◌∙◌}
 use Rattle.std.specs.List.{flat_map}
-use Rattle.ms_ir.specs.declared.inst.Effects.{Effects}
 use Rattle.ms_ir.specs.Module.{ModuleState}
 use Rattle.ms_grammar.specs.Kept.{Each}
 use Rattle.ms_grammar.specs.declared.line.Line.{Line}
@@ -10,9 +9,9 @@ use Rattle.ms_read.specs.Draft.{IsDraft}
 use Rattle.ms_read.specs.Told.{IsSaid, IsPlaced, sorts_of}
 use Rattle.ms_read.proofs.Told.{told_lines, told_places}
 use Rattle.ms_resolve.specs.Shape.{ItemLines, item_lines, IsShape}
-use Rattle.ms_resolve.specs.Module.{groups_of, module_of, IsModuleOf}
+use Rattle.ms_resolve.specs.Module.{module_of}
 use Rattle.ms_valid.specs.Cause.{IsAccepted, HasNone}
-use Rattle.ms_valid.specs.Faults.{HasTypeFault, HasEdgeFault, HasOrderFault, IsIrreducible}
+use Rattle.ms_valid.specs.Faults.{HasTypeFault, HasEdgeFault, HasOrderFault}
 use Rattle.ms_again.specs.Same.{plain_module, IsSameModule}
 use Rattle.ms_again.specs.Again.{IsReadAgain}
 use Rattle.ms_again.proofs.SameText.{same_text}
@@ -22,6 +21,7 @@ use Rattle.ms_again.proofs.Sites.{each_flat}
 use Rattle.ms_again.proofs.Known.{IsSound}
 use Rattle.ms_again.proofs.Draft.{IsBasis, AreNamed, module_named, text_is, text_read}
 use Rattle.ms_again.proofs.SameModule.{module_same, meaning_again}
+use Rattle.ms_again.proofs.OneModule.{only_same}
 use Rattle.ms_again.proofs.NameSound.{names_sound}
 use Rattle.ms_again.proofs.ValidSound.{types_sound, edges_sound, order_sound, loops_sound}
 
@@ -57,6 +57,9 @@ accepted_again draft m a named =
       reducible = loops_sound (module_of effects keeps whole.spare (items_again 1 None items)) m (module_same effects keeps whole.spare items named ∙ ap plain_module (sym is)) a.reducible;
     }
 
+same_chain : (m n o : ModuleState) → IsSameModule m n → IsSameModule n o → IsSameModule m o
+same_chain m n o one other = record { same = one.same ∙ other.same }
+
 pub read_again : (bytes : List ℕ) (draft : List (ℕ × Line)) (m : ModuleState) → IsDraft bytes draft → IsAccepted draft m → length (module_text m) < 10 ^ 9 → IsReadAgain m
 read_again bytes draft m read a short =
     let items = a.items in
@@ -71,11 +74,15 @@ read_again bytes draft m read a short =
     let text : module_text m ≡ rows_text (items_said None items) = ap module_text is ∙ text_is effects keeps whole.spare items sound basis in
     let named = module_named effects keeps whole.spare items sound basis (subst (λ (t : List ℕ). length t < 10 ^ 9) text short) in
     let same : IsSameModule m again = record { same = ap plain_module is ∙ sym (module_same effects keeps whole.spare items named) } in
+    let new : List (ℕ × Line) = flat_map item_lines (items_again 1 None items) in
+    let new_read : IsDraft (module_text m) new = subst (λ (t : List ℕ). IsDraft t new) (sym (ap module_text is)) (text_read effects keeps whole.spare items sound basis named) in
+    let accepted : IsAccepted new again = accepted_again draft m a named in
     record {
-      draft = flat_map item_lines (items_again 1 None items);
+      draft = new;
       other = again;
-      read = subst (λ (t : List ℕ). IsDraft t (flat_map item_lines (items_again 1 None items))) (sym (ap module_text is)) (text_read effects keeps whole.spare items sound basis named);
-      accepted = accepted_again draft m a named;
+      read = new_read;
+      accepted = accepted;
       same = same;
       text = sym (same_text m again same);
+      only = λ d n there accepted_there. same_chain m again n same (only_same (module_text m) new d again n new_read accepted there accepted_there);
     }

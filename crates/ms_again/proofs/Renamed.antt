@@ -1,7 +1,5 @@
 -- A line whose locals and blocks get other names is said by its printed form, where those are names.
-use Rattle.std.proofs.Common.{◌≡◌, ◌≤◌, ◌<◌, ◌+◌, ℕ, Bool, true, false, List, [], ◌∷◌, ◌++◌, Option, Some, None, map, length, if◌then◌else◌, refl, sym, ap, subst, ◌∙◌, arith}
-use Rattle.std.proofs.lemmas.List.{append-nil}
-use Rattle.ms_lex.specs.Line.{EndsAfter}
+use Rattle.std.proofs.Common.{◌≡◌, ℕ, Bool, true, false, List, [], ◌∷◌, ◌++◌, Some, None, map, refl, subst, arith}
 use Rattle.ms_lex.specs.declared.token.Token.{Token}
 use Rattle.ms_ir.specs.declared.names.Ty.{Ty}
 use Rattle.ms_ir.specs.declared.names.Ty.TheVariants.{I1, I64, Ptr}
@@ -9,12 +7,10 @@ use Rattle.ms_ir.specs.declared.names.Name.{Name}
 use Rattle.ms_ir.specs.declared.names.Name.TheVariants as name
 use Rattle.ms_ir.specs.declared.names.Param.{Param}
 use Rattle.ms_grammar.specs.Kept.{Each}
-use Rattle.ms_grammar.specs.Parts.{Part, blank, token, apart, kept, attributes, post, object, gep_head, indices, call_head, copy_head, text_of, Spells}
-use Rattle.ms_grammar.specs.Form.{Scale, no_scale, form, printed, word_part, type_part, local_part, value_part, brace_parts, front_parts, listed, arg_parts, entry_parts, name_text, named_parts, param_parts, dots_parts, end_parts, target_parts, inst_parts, term_parts, result_parts}
-use Rattle.ms_grammar.specs.Fits.{IsNamed, MayBeNamed, IsValue, IsArg, IsParam, IsEntryOf, FitsInst, FitsTerm, FitsHead, FitsLine, IsMade}
-use Rattle.ms_grammar.specs.Grammar.{Says}
+use Rattle.ms_grammar.specs.Parts.{Part, blank, token, apart, attributes, post, object, gep_head, indices, call_head, copy_head, Spells}
+use Rattle.ms_grammar.specs.Form.{Scale, form, word_part, type_part, local_part, value_part, brace_parts, front_parts, listed, arg_parts, entry_parts, name_text, named_parts, param_parts, dots_parts, end_parts, target_parts, inst_parts, term_parts, result_parts}
+use Rattle.ms_grammar.specs.Fits.{IsNamed, MayBeNamed, IsValue, IsArg, IsParam, IsEntryOf, FitsInst, FitsTerm, FitsHead}
 use Rattle.ms_grammar.specs.declared.line.Head.{Head}
-use Rattle.ms_grammar.specs.declared.line.Line.{Line}
 use Rattle.ms_grammar.specs.declared.line.Line.TheVariants as said
 use Rattle.ms_grammar.specs.declared.line.RawVal.{RawVal}
 use Rattle.ms_grammar.specs.declared.line.RawVal.TheVariants.{Num, Local, Global}
@@ -26,18 +22,14 @@ use Rattle.ms_grammar.specs.declared.line.RawTerm.{RawTerm}
 use Rattle.ms_grammar.specs.declared.line.RawTerm.TheVariants.{Br, CondBr, Ret, Unreachable}
 use Rattle.ms_grammar.specs.declared.keyword.Keyword.{Keyword}
 use Rattle.ms_grammar.specs.declared.keyword.Keyword.TheVariants as word
-use Rattle.ms_grammar.proofs.Printing.{text_of_append}
 use Rattle.ms_print.specs.Numbering.{shown_params, shown_name, free_after}
-use Rattle.ms_resolve.specs.Made.{makes}
-use Rattle.ms_resolve.specs.Used.{values_of, term_values, inst_blocks, term_blocks, arg_value, entry_value, entry_block}
-use Rattle.ms_reread.proofs.Ends.{Calm}
-use Rattle.ms_reread.proofs.Places.{Stands, follow_map, whole_tokens, Gap, gap_none}
+use Rattle.ms_reread.proofs.Places.{Gap, gap_none}
 use Rattle.ms_reread.proofs.Moves.{Old}
-use Rattle.ms_reread.proofs.Pieces.{Said, Back, Next, Before, behind, behind_free, next_behind, nothing, blank_next, token_back, token_then, mark_free, mark_next, flag_next}
+use Rattle.ms_reread.proofs.Pieces.{Back, Next, behind, behind_free, next_behind, nothing, blank_next, token_back, token_then, mark_free, mark_next, flag_next}
 use Rattle.ms_reread.proofs.Classes.{kept_back, attributes_next, post_next, tail_next}
 use Rattle.ms_reread.proofs.Tokens.{word_whole, type_whole, op_whole, predicate_whole, cast_whole, result_whole, global_whole, global_name_whole, local_whole, label_whole, colon_calm, open_calm, close_calm, open_square}
 use Rattle.ms_reread.proofs.Values.{EachBack, count_back, value_back, comma_next, listed_back}
-use Rattle.ms_again.proofs.Renaming.{Renaming, renamed_val, renamed_arg, renamed_entry, renamed_inst, renamed_given, renamed_term}
+use Rattle.ms_again.proofs.Renaming.{Renaming, renamed_val, renamed_arg, renamed_entry, renamed_inst, renamed_term}
 
 -- tokens that are written anew, whatever was said in their place
 nothing_old : Old [] []

@@ -1,5 +1,5 @@
 -- Lines whose locals and blocks get other names.
-use Rattle.std.specs.Prelude.{List, map, Option, Some, None}
+use Rattle.std.specs.Prelude.{map, Option, Some, None}
 use Rattle.ms_ir.specs.declared.names.Name.{Name}
 use Rattle.ms_ir.specs.declared.names.Ty.{Ty}
 use Rattle.ms_grammar.specs.declared.line.RawVal.{RawVal}

@@ -1,9 +1,8 @@
 -- Names in lists: each name of one list stands at its number in another.
-use Rattle.std.proofs.Common.{◌≡◌, ◌≤◌, ◌<◌, ◌+◌, ◌^◌, ◌==◌, ◌⊎◌, inl, inr, ⊎_elim, ℕ, zero, suc, Bool, true, false, cond, List, [], ◌∷◌, ◌++◌, Option, Some, None, map, length, if◌then◌else◌, refl, sym, ap, subst, ◌∙◌, arith, decimal, bytes_eq}
-use Rattle.std.specs.Prelude.{slice_index_or, slice_get, position, nat_lt, filter, not}
+use Rattle.std.proofs.Common.{◌≡◌, ◌≤◌, ◌<◌, ◌+◌, ◌^◌, ◌⊎◌, inl, inr, ⊎_elim, ℕ, zero, suc, Bool, true, false, cond, List, [], ◌∷◌, Some, map, length, if◌then◌else◌, refl, sym, ap, subst, ◌∙◌, arith}
+use Rattle.std.specs.Prelude.{slice_index_or, slice_get, nat_lt, filter}
 use Rattle.std.specs.Option.{option_map}
-use Rattle.std.specs.Cmp.Lexicographic.{bytes_decides, nat_list_eq_equiv}
-use Rattle.std.proofs.lemmas.Bool.{cases_Bool, both_ways, false≢true}
+use Rattle.std.proofs.lemmas.Bool.{cases_Bool, both_ways}
 use Rattle.std.proofs.lemmas.Bool.Decides.{nat_tests}
 use Rattle.std.proofs.lemmas.Fmt.{length-decimal-le}
 use Rattle.ms_ir.specs.declared.names.Name.{Name}
@@ -13,14 +12,14 @@ use Rattle.ms_grammar.specs.Form.{name_text}
 use Rattle.ms_grammar.specs.Fits.{IsNamed, MayBeNamed}
 use Rattle.ms_grammar.specs.Limits.{IsShort}
 use Rattle.ms_resolve.specs.Made.{Made, is_same_name, full_name, free_behind, name_of_made}
-use Rattle.ms_resolve.specs.Faults.{IsIn, IsNotIn}
+use Rattle.ms_resolve.specs.Faults.{IsNotIn}
 use Rattle.ms_resolve.specs.Places.{is_name_there}
 use Rattle.ms_resolve.specs.Scope.{number_of_name, or_first}
-use Rattle.ms_resolve.proofs.Members.{Among, among_in, in_among, get_among, among_map, among_filter, same_name, full_same, there_name, name_there}
+use Rattle.ms_resolve.proofs.Members.{Among, in_among, get_among, among_map, among_filter, same_name, full_same, there_name, name_there}
 use Rattle.ms_resolve.proofs.PlaceLemmas.{seek, seek_is}
 use Rattle.ms_print.specs.Numbering.{numbered, shown_name, free_after}
 use Rattle.ms_again.proofs.Fine.{IsGood}
-use Rattle.ms_again.proofs.Names.{full, shown, named_by, locals_in, blocks_in}
+use Rattle.ms_again.proofs.Names.{full, shown, named_by}
 
 -- a name that is there is the same as itself
 pub named_same : (n : Name) → IsNamed n → is_same_name n n ≡ true

@@ -1,15 +1,11 @@
 -- The printed items are the same module.
-use Rattle.std.proofs.Common.{◌≡◌, ◌≤◌, ◌<◌, ◌+◌, ◌^◌, ◌&&◌, ℕ, zero, suc, Bool, true, false, List, [], ◌∷◌, ◌++◌, Option, Some, None, map, length, if◌then◌else◌, refl, sym, ap, subst, ◌∙◌, arith}
-use Rattle.std.specs.Prelude.{slice_index_or, slice_get}
+use Rattle.std.proofs.Common.{◌≡◌, ◌≤◌, ◌<◌, ◌+◌, ◌^◌, ◌&&◌, ℕ, suc, Bool, true, false, List, [], ◌∷◌, ◌++◌, Option, Some, None, map, length, if◌then◌else◌, refl, sym, ap, ◌∙◌, arith}
 use Rattle.std.specs.List.{flat_map}
-use Rattle.std.specs.Option.{option_map}
 use Rattle.std.proofs.lemmas.List.{map-append}
 use Rattle.ms_ir.specs.declared.names.Name.{Name}
 use Rattle.ms_ir.specs.declared.names.Name.TheVariants.{Word, Number, Absent}
-use Rattle.ms_ir.specs.declared.names.Ty.{Ty}
 use Rattle.ms_ir.specs.declared.names.Mark.{Mark}
 use Rattle.ms_ir.specs.declared.names.Param.{Param}
-use Rattle.ms_ir.specs.declared.inst.Val.{Val}
 use Rattle.ms_ir.specs.declared.inst.Val.TheVariants as val
 use Rattle.ms_ir.specs.declared.inst.Arg.{Arg}
 use Rattle.ms_ir.specs.declared.inst.Entry.{Entry}
@@ -23,11 +19,9 @@ use Rattle.ms_ir.specs.declared.module.Item.TheVariants as item
 use Rattle.ms_ir.specs.declared.module.Sig.{Sig}
 use Rattle.ms_ir.specs.Symbols.{NamesState}
 use Rattle.ms_ir.specs.Func.{Placed, Block, FuncState}
-use Rattle.ms_ir.specs.Module.{ModuleState}
 use Rattle.ms_grammar.specs.Kept.{Each}
 use Rattle.ms_grammar.specs.Form.{name_text, printed}
 use Rattle.ms_grammar.specs.Parts.{behind_blank}
-use Rattle.ms_grammar.specs.declared.line.Head.{Head}
 use Rattle.ms_grammar.specs.declared.line.Line.{Line}
 use Rattle.ms_grammar.specs.declared.line.Line.TheVariants as said
 use Rattle.ms_grammar.specs.declared.line.RawVal.{RawVal}
@@ -39,23 +33,21 @@ use Rattle.ms_grammar.specs.declared.line.RawInst.TheVariants.{Alloca, Gep, Load
 use Rattle.ms_grammar.specs.declared.line.RawTerm.{RawTerm}
 use Rattle.ms_grammar.specs.declared.line.RawTerm.TheVariants.{Br, CondBr, Ret, Unreachable}
 use Rattle.ms_attrs.specs.Effects.{both}
-use Rattle.ms_resolve.specs.Shape.{LabelLine, InstLine, BlockLines, FuncLines, ItemLines, plain, body}
+use Rattle.ms_resolve.specs.Shape.{InstLine, BlockLines, FuncLines, ItemLines, plain, body}
 use Rattle.ms_resolve.specs.Made.{makes, locals_of, blocks_of}
 use Rattle.ms_resolve.specs.Used.{values_of, term_values, inst_blocks, term_blocks, arg_value, entry_value, entry_block}
-use Rattle.ms_resolve.specs.Faults.{IsIn, line_symbols, item_symbols, symbols_of, name_of_symbol}
-use Rattle.ms_resolve.specs.Scope.{Scope, Meaning, number_of_name, value_of, block_of, is_pointer, arg_of, args_of, entry_of, keeps_at, behind_first, marks_of, effects_of_sig, sig_of, number_of_word, inst_of, given_of, term_of, local_behind, locals_behind, all_made, all_locals, func_of, mark_of, sig_in}
-use Rattle.ms_resolve.specs.Module.{group_of, groups_of, func_names_in, global_names_in, names_of, sigs_in, items_from, scope_of, bodies_in, module_of}
+use Rattle.ms_resolve.specs.Faults.{line_symbols, symbols_of, name_of_symbol}
+use Rattle.ms_resolve.specs.Scope.{Scope, number_of_name, value_of, block_of, is_pointer, arg_of, args_of, entry_of, keeps_at, behind_first, marks_of, effects_of_sig, sig_of, number_of_word, inst_of, term_of, local_behind, locals_behind, all_made, all_locals, mark_of}
+use Rattle.ms_resolve.specs.Module.{group_of, groups_of, func_names_in, global_names_in, names_of, sigs_in, items_from, bodies_in}
 use Rattle.ms_print.specs.Numbering.{shown_name, free_after, shown_params}
-use Rattle.ms_again.specs.Same.{own_name, plain_param, plain_func, plain_module, IsSameModule}
-use Rattle.ms_again.proofs.Renaming.{Renaming, renamed_val, renamed_arg, renamed_entry, renamed_inst, renamed_given, renamed_term}
-use Rattle.ms_again.proofs.Renamed.{with_params}
+use Rattle.ms_again.specs.Same.{own_name, plain_param}
+use Rattle.ms_again.proofs.Renaming.{Renaming, renamed_val, renamed_arg, renamed_entry, renamed_inst, renamed_term}
 use Rattle.ms_again.proofs.Fine.{made_name}
 use Rattle.ms_again.proofs.Right.{shown_next}
-use Rattle.ms_again.proofs.Names.{shown, label_name, inst_free, block_free, params_free, locals_listed, blocks_listed, blocks_size, size_of}
-use Rattle.ms_again.proofs.Plain.{plain_at, plain_insts, plain_blocks, plain_of, func_plain}
-use Rattle.ms_again.proofs.Again.{renaming, insts_said, label_said, block_said, label_again, insts_again, block_again, blocks_again, start, func_said, gap_said, func_again, items_again}
-use Rattle.ms_again.proofs.AgainNames.{makes_again, own_shown, inst_less, block_less, params_less, locals_again, blocks_are_again}
-use Rattle.ms_again.proofs.Sites.{built}
+use Rattle.ms_again.proofs.Names.{shown, label_name, inst_free, block_free, locals_listed, blocks_listed, blocks_size}
+use Rattle.ms_again.proofs.Plain.{plain_at, plain_insts, plain_blocks, plain_of}
+use Rattle.ms_again.proofs.Again.{renaming, label_said, block_said, label_again, insts_again, blocks_again, start, func_said, gap_said, func_again, items_again}
+use Rattle.ms_again.proofs.AgainNames.{makes_again, own_shown, inst_less, block_less, params_less}
 use Rattle.ms_again.proofs.Uses.{IsRightVal, IsRightBlock, IsRightUse, IsRightInst, IsRightLines}
 use Rattle.ms_again.proofs.Lines.{IsFineNamed}
 
@@ -357,7 +349,15 @@ plain_same s f row e b named =
     let few = named.few in
     let blocks = blocks_again r true (row + 1) (start f) f.blocks in
     let F : List Param → List Block → ℕ → ℕ → FuncState = λ ps bs made locals. record {
-      name = f.head.name; head = f.head.attrs; ret = f.head.ret; params = ps; tail = f.head.post; blocks = bs; made = made; locals = locals; spare = 0;
+      name = f.head.name;
+      head = f.head.attrs;
+      ret = f.head.ret;
+      params = ps;
+      tail = f.head.post;
+      blocks = bs;
+      made = made;
+      locals = locals;
+      spare = 0;
     } in
     ap (λ k. F (map plain_param (shown_params 0 f.head.params)) (plain_blocks t 0 k blocks) (all_made 0 blocks) (all_locals k blocks)) (params_count 0 f.head.params)
     ∙ ap (λ ps. F ps (plain_blocks t 0 (length f.head.params) blocks) (all_made 0 blocks) (all_locals (length f.head.params) blocks)) (params_plain 0 f.head.params (omega arith))

@@ -1,6 +1,5 @@
 -- The module of the printed items is the same module.
-use Rattle.std.proofs.Common.{◌≡◌, ◌≤◌, ◌<◌, ◌+◌, ◌^◌, ℕ, zero, suc, Bool, true, false, List, [], ◌∷◌, ◌++◌, Option, Some, None, map, length, refl, sym, ap, subst, ◌∙◌, arith}
-use Rattle.std.specs.Prelude.{slice_get}
+use Rattle.std.proofs.Common.{◌≡◌, ◌+◌, ℕ, Bool, true, false, List, [], ◌∷◌, ◌++◌, Option, Some, None, map, length, refl, sym, ap, subst, ◌∙◌}
 use Rattle.std.specs.List.{flat_map}
 use Rattle.std.specs.Option.{option_map}
 use Rattle.std.proofs.lemmas.List.{map-append}
@@ -13,13 +12,12 @@ use Rattle.ms_ir.specs.Func.{FuncState}
 use Rattle.ms_ir.specs.Module.{ModuleState}
 use Rattle.ms_attrs.specs.Effects.{IsEffectsOf}
 use Rattle.ms_grammar.specs.Kept.{Each}
-use Rattle.ms_grammar.specs.declared.line.Line.{Line}
 use Rattle.ms_resolve.specs.Shape.{FuncLines, ItemLines, plain, body}
-use Rattle.ms_resolve.specs.Made.{locals_of, blocks_of}
+use Rattle.ms_resolve.specs.Made.{blocks_of}
 use Rattle.ms_resolve.specs.Faults.{IsIn}
-use Rattle.ms_resolve.specs.Scope.{Scope, Meaning, func_of}
-use Rattle.ms_resolve.specs.Module.{groups_of, func_names_in, global_names_in, names_of, sigs_in, items_from, scope_of, bodies_in, module_of}
-use Rattle.ms_again.specs.Same.{plain_func, plain_module, IsSameModule}
+use Rattle.ms_resolve.specs.Scope.{Scope, Meaning}
+use Rattle.ms_resolve.specs.Module.{groups_of, names_of, sigs_in, items_from, scope_of, bodies_in, module_of}
+use Rattle.ms_again.specs.Same.{plain_func, plain_module}
 use Rattle.ms_again.proofs.Names.{shown, locals_listed, blocks_listed}
 use Rattle.ms_again.proofs.Plain.{plain_of, func_plain}
 use Rattle.ms_again.proofs.Again.{func_said, gap_said, func_again, items_again}
@@ -35,7 +33,13 @@ scope_same : (effects : List ℕ → Effects) (keeps : List ℕ → Bool) (items
 scope_same effects keeps items row f named =
     let again = items_again 1 None items in
     let S : List Name → List Name → NamesState → List Sig → Scope = λ locals blocks names sigs. record {
-      locals = locals; blocks = blocks; funcs = names.funcs; globals = names.globals; sigs = sigs; effects = effects; keeps = keeps;
+      locals = locals;
+      blocks = blocks;
+      funcs = names.funcs;
+      globals = names.globals;
+      sigs = sigs;
+      effects = effects;
+      keeps = keeps;
     } in
     let new = func_again row f in
     ap (λ ns. S ns (blocks_of new) (names_of again) (flat_map (sigs_in effects keeps) again)) (locals_again row f named.few)
@@ -90,7 +94,11 @@ pub module_same : (effects : List ℕ → Effects) (keeps : List ℕ → Bool) (
 module_same effects keeps spare items named =
     let again = items_again 1 None items in
     let M : List (ℕ × List ℕ) → List Item → List Sig → List (Option FuncState) → NamesState → ModuleState = λ groups items sigs bodies names. record {
-      groups = groups; items = items; sigs = sigs; bodies = bodies; names = names;
+      groups = groups;
+      items = items;
+      sigs = sigs;
+      bodies = bodies;
+      names = names;
     } in
     let bodies = bare_bodies (module_of effects keeps spare again).bodies in
     let sigs = flat_map (sigs_in effects keeps) again in

@@ -1,5 +1,5 @@
 -- The text of a module does not show the written numbers of things without a name, nor the room of functions.
-use Rattle.std.proofs.Common.{◌≡◌, ◌==◌, ℕ, zero, suc, Bool, List, [], ◌∷◌, ◌++◌, Option, Some, None, if◌then◌else◌, map, refl, sym, ap, ◌∙◌}
+use Rattle.std.proofs.Common.{◌≡◌, ℕ, zero, suc, Bool, List, [], ◌∷◌, ◌++◌, Option, Some, None, if◌then◌else◌, map, refl, sym, ap, ◌∙◌}
 use Rattle.std.specs.List.{slice_get, slice_index_or}
 use Rattle.std.specs.Option.{is_some, option_map}
 use mathlib.Core.Path.{fun_ext}
@@ -30,7 +30,6 @@ pub free_own : (next : ℕ) (n : Name) → free_after next (own_name n) ≡ free
 free_own next (Word text) = refl
 free_own next (Number n) = refl
 free_own next Absent = refl
-
 
 pub params_plain : (next : ℕ) (ps : List Param) → shown_params next (map plain_param ps) ≡ shown_params next ps
 params_plain next [] = refl

@@ -1,19 +1,19 @@
 -- The names under which a function is printed are those along its lines.
-use Rattle.std.proofs.Common.{◌≡◌, ◌≤◌, ◌<◌, ◌+◌, ◌==◌, ◌⊎◌, inl, inr, ℕ, zero, suc, Bool, true, false, List, [], ◌∷◌, ◌++◌, Option, Some, None, map, length, if◌then◌else◌, refl, sym, ap, subst, ◌∙◌, arith, length-append}
+use Rattle.std.proofs.Common.{◌≡◌, ◌≤◌, ◌<◌, ◌+◌, ◌==◌, inl, inr, ℕ, suc, Bool, true, false, List, [], ◌∷◌, Some, None, map, length, if◌then◌else◌, refl, sym, ap, subst, ◌∙◌, arith, length-append}
 use Rattle.std.specs.Prelude.{slice_index_or, is_some}
 use Rattle.std.proofs.lemmas.Bool.{cases_lt, eqb-true}
 use Rattle.std.proofs.lemmas.Bool.Decides.{nat_tests}
 use Rattle.std.proofs.lemmas.List.{get_or_past, get_or_append_left}
 use mathlib.Core.Path.{fun_ext}
 use Rattle.ms_ir.specs.declared.names.Name.{Name}
-use Rattle.ms_ir.specs.declared.names.Name.TheVariants.{Word, Number, Absent}
+use Rattle.ms_ir.specs.declared.names.Name.TheVariants.{Absent}
 use Rattle.ms_ir.specs.declared.names.Param.{Param}
 use Rattle.ms_ir.specs.declared.names.LocalNo.{LocalNo}
 use Rattle.ms_ir.specs.Symbols.{NamesState}
-use Rattle.ms_ir.specs.Func.{Placed, Block, FuncState}
-use Rattle.ms_resolve.specs.Shape.{LabelLine, InstLine, BlockLines, FuncLines}
+use Rattle.ms_ir.specs.Func.{Block}
+use Rattle.ms_resolve.specs.Shape.{InstLine, BlockLines, FuncLines}
 use Rattle.ms_resolve.specs.Made.{makes}
-use Rattle.ms_resolve.specs.Scope.{Scope, inst_of, term_of, local_behind, locals_behind, all_locals}
+use Rattle.ms_resolve.specs.Scope.{Scope, term_of, local_behind, locals_behind, all_locals}
 use Rattle.ms_print.specs.Numbering.{shown_name, free_after, shown_params, free_after_params, free_after_inst, free_after_insts, free_after_block, shown_labels, is_given, name_among, name_in, param_name, name_of_param, local_name, labels_of}
 use Rattle.ms_print.specs.Lines.{Shown, shown_in}
 use Rattle.ms_again.specs.Same.{own_name, plain_param}

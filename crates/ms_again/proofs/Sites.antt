@@ -1,6 +1,6 @@
 -- The lines of a module without faults: which names they use.
-use Rattle.std.proofs.Common.{◌≡◌, ◌≤◌, ◌<◌, ◌+◌, ◌⊎◌, inl, inr, ⊎_elim, ℕ, zero, suc, Bool, true, false, List, [], ◌∷◌, ◌++◌, Option, Some, None, map, length, if◌then◌else◌, refl, sym, ap, subst, ◌∙◌, arith, bytes_eq}
-use Rattle.std.specs.Prelude.{slice_index_or, slice_get}
+use Rattle.std.proofs.Common.{◌≡◌, ◌⊎◌, inl, inr, ⊎_elim, ℕ, zero, suc, Bool, true, false, List, [], ◌∷◌, ◌++◌, Option, Some, None, map, if◌then◌else◌, refl, sym, ap, subst, ◌∙◌, bytes_eq}
+use Rattle.std.specs.Prelude.{slice_get}
 use Rattle.std.specs.List.{flat_map}
 use Rattle.std.specs.Option.{option_map}
 use Rattle.std.specs.Cmp.Lexicographic.{bytes_decides, nat_list_eq_equiv}
@@ -9,16 +9,11 @@ use Rattle.ms_ir.specs.declared.names.Name.{Name}
 use Rattle.ms_ir.specs.declared.names.Name.TheVariants.{Word, Number, Absent}
 use Rattle.ms_ir.specs.declared.names.Ty.{Ty}
 use Rattle.ms_ir.specs.declared.names.Ty.TheVariants.{I1, Ptr}
-use Rattle.ms_ir.specs.declared.names.Param.{Param}
 use Rattle.ms_ir.specs.declared.inst.Effects.{Effects}
-use Rattle.ms_ir.specs.Symbols.{NamesState}
-use Rattle.ms_ir.specs.Func.{Placed, Block, FuncState}
-use Rattle.ms_ir.specs.Module.{ModuleState}
+use Rattle.ms_ir.specs.Func.{FuncState}
 use Rattle.ms_grammar.specs.Kept.{Each}
 use Rattle.ms_grammar.specs.Form.{Scale, name_text}
-use Rattle.ms_grammar.specs.Fits.{IsNamed, MayBeNamed, IsWordName, IsValue, IsArg, IsParam, IsEntryOf, FitsInst, FitsTerm, IsMade}
-use Rattle.ms_grammar.specs.Limits.{IsShort, names_of_param}
-use Rattle.ms_grammar.specs.declared.line.Head.{Head}
+use Rattle.ms_grammar.specs.Fits.{IsNamed, IsWordName, IsValue, IsArg, IsEntryOf, FitsInst, FitsTerm}
 use Rattle.ms_grammar.specs.declared.line.Line.{Line}
 use Rattle.ms_grammar.specs.declared.line.Line.TheVariants as said
 use Rattle.ms_grammar.specs.declared.line.RawVal.{RawVal}
@@ -29,25 +24,22 @@ use Rattle.ms_grammar.specs.declared.line.RawInst.{RawInst}
 use Rattle.ms_grammar.specs.declared.line.RawInst.TheVariants.{Alloca, Gep, Load, Store, Copy, Call, Bin, Cmp, Select, Cast, Phi}
 use Rattle.ms_grammar.specs.declared.line.RawTerm.{RawTerm}
 use Rattle.ms_grammar.specs.declared.line.RawTerm.TheVariants.{Br, CondBr, Ret, Unreachable}
-use Rattle.ms_resolve.specs.Shape.{LabelLine, InstLine, BlockLines, FuncLines, ItemLines, plain, body, label_lines, inst_line, block_lines, func_lines, item_lines}
-use Rattle.ms_resolve.specs.Made.{Made, makes, param_made, inst_made, label_made, block_made, made_in, locals_of, blocks_of, name_of_made}
-use Rattle.ms_resolve.specs.Used.{Names, values_of, term_values, inst_blocks, term_blocks, callee_of, local_of, global_of, arg_value, entry_value, entry_block, inst_names, term_names}
+use Rattle.ms_resolve.specs.Shape.{InstLine, BlockLines, FuncLines, ItemLines, plain, body, label_lines, inst_line, block_lines, func_lines}
+use Rattle.ms_resolve.specs.Made.{locals_of, blocks_of}
+use Rattle.ms_resolve.specs.Used.{Names, values_of, term_values, inst_blocks, term_blocks, arg_value, entry_value, entry_block}
 use Rattle.ms_resolve.specs.Faults.{IsIn, IsNotIn, Symbol, symbols_of, item_symbols, name_of_symbol, StandsAt, HasNameFault}
 use Rattle.ms_resolve.specs.Faults as named
 use Rattle.ms_resolve.specs.Cause.{NoNameFault}
 use Rattle.ms_resolve.specs.Places.{is_word_there}
-use Rattle.ms_resolve.specs.Scope.{Scope, number_of_word, or_first, func_of, inst_of}
+use Rattle.ms_resolve.specs.Scope.{Scope, number_of_word, or_first, func_of}
 use Rattle.ms_resolve.specs.Module.{names_of, scope_of, bodies_in, funcs_of, body_in, module_of, func_names_in, global_names_in}
-use Rattle.ms_resolve.proofs.Members.{Among, among_in, in_among, get_among, there_word, word_there_any}
+use Rattle.ms_resolve.proofs.Members.{Among, among_in, in_among, there_word, word_there_any}
 use Rattle.ms_resolve.proofs.PlaceLemmas.{seek, seek_is}
 use Rattle.ms_print.specs.Lines.{word_at, text_in}
-use Rattle.ms_valid.specs.Cause.{HasNone}
-use Rattle.ms_valid.specs.Faults.{IsBody, HasInst, HasTerm, HasTypeFault, HasTypeFaultIn, func_operand, global_called, func_returned, body_there, bodies_there}
-use Rattle.ms_valid.proofs.BuiltLemmas.{at_built, from_term}
-use Rattle.ms_valid.proofs.ListLemmas.{in_nil, in_cons, in_here, in_there, in_one, in_left, in_right, in_flat, flat_in, get_map, map_get}
-use Rattle.ms_again.proofs.Fine.{IsFine, each_join, each_first, each_second}
-use Rattle.ms_again.proofs.Right.{known_name, named_same, MayBeGood, names_in}
-use Rattle.ms_again.proofs.Printed.{IsKnownVal, IsKnownCall, IsKnownInst, IsKnownBlock, IsKnownFunc, IsKnownItem}
+use Rattle.ms_valid.specs.Faults.{IsBody, body_there, bodies_there}
+use Rattle.ms_valid.proofs.ListLemmas.{in_nil, in_here, in_one, in_flat, flat_in, get_map, map_get}
+use Rattle.ms_again.proofs.Fine.{IsFine, each_first, each_second}
+use Rattle.ms_again.proofs.Right.{known_name, named_same}
 
 -- members of lists
 pub each_at : {X : Type 0} (P : X → Type 0) (xs : List X) → ((k : ℕ) (x : X) → slice_get xs k ≡ Some x → P x) → Each P xs

@@ -1,29 +1,28 @@
 -- In a module without faults the names that lines use have printed names with the same numbers.
-use Rattle.std.proofs.Common.{◌≡◌, ◌≤◌, ◌<◌, ◌+◌, ◌^◌, ◌⊎◌, inl, inr, ⊎_elim, ℕ, zero, suc, Bool, true, false, List, [], ◌∷◌, ◌++◌, Option, Some, None, map, length, if◌then◌else◌, refl, sym, ap, subst, ◌∙◌, arith}
-use Rattle.std.specs.Prelude.{slice_get, filter, not}
+use Rattle.std.proofs.Common.{◌≡◌, ◌≤◌, ◌<◌, ◌^◌, ℕ, suc, Bool, true, false, List, [], ◌∷◌, Option, Some, None, map, length, if◌then◌else◌, refl, sym, ap, subst, ◌∙◌, arith}
+use Rattle.std.specs.Prelude.{slice_get, not}
 use Rattle.std.specs.List.{flat_map}
 use Rattle.ms_ir.specs.declared.names.Name.{Name}
 use Rattle.ms_ir.specs.declared.names.Name.TheVariants.{Word, Number, Absent}
 use Rattle.ms_ir.specs.declared.names.Param.{Param}
 use Rattle.ms_grammar.specs.Kept.{Each}
-use Rattle.ms_grammar.specs.Form.{name_text}
-use Rattle.ms_grammar.specs.Fits.{IsNamed, MayBeNamed, IsParam, IsMade, FitsInst, FitsTerm}
+use Rattle.ms_grammar.specs.Fits.{IsNamed, MayBeNamed, IsParam, IsMade}
 use Rattle.ms_grammar.specs.Limits.{IsShort, names_of_param}
 use Rattle.ms_grammar.specs.declared.line.Line.TheVariants as said
 use Rattle.ms_grammar.specs.declared.line.RawVal.{RawVal}
 use Rattle.ms_grammar.specs.declared.line.RawVal.TheVariants.{Num, Local, Global}
 use Rattle.ms_grammar.specs.declared.line.RawInst.{RawInst}
 use Rattle.ms_grammar.specs.declared.line.RawInst.TheVariants.{Alloca, Gep, Load, Store, Copy, Call, Bin, Cmp, Select, Cast, Phi}
-use Rattle.ms_resolve.specs.Shape.{LabelLine, InstLine, BlockLines, FuncLines, ItemLines, plain, body, label_lines}
-use Rattle.ms_resolve.specs.Made.{Made, makes, param_made, inst_made, label_made, block_made, made_in, named_in, locals_of, blocks_of, name_of_made, is_same_name}
-use Rattle.ms_resolve.specs.Used.{Names, values_of, term_values, inst_blocks, term_blocks, local_of, inst_names, term_names}
+use Rattle.ms_resolve.specs.Shape.{LabelLine, InstLine, BlockLines, FuncLines, ItemLines, body, label_lines}
+use Rattle.ms_resolve.specs.Made.{Made, makes, param_made, inst_made, label_made, block_made, made_in, named_in, locals_of, blocks_of, name_of_made}
+use Rattle.ms_resolve.specs.Used.{values_of, term_values, inst_blocks, term_blocks, local_of, inst_names, term_names}
 use Rattle.ms_resolve.specs.Faults.{IsIn, StandsAt}
 use Rattle.ms_resolve.specs.Faults as named
 use Rattle.ms_resolve.specs.Cause.{NoNameFault}
 use Rattle.ms_resolve.proofs.Members.{Among, among_in, among_map}
 use Rattle.ms_valid.proofs.ListLemmas.{in_here, flat_in}
-use Rattle.ms_again.proofs.Fine.{IsFine, IsGood, IsGoodVal, IsGoodBlock, each_join, each_first, each_second}
-use Rattle.ms_again.proofs.Names.{full, shown, label_name, named_by, named_full, locals_in, blocks_in, locals_by, blocks_by, locals_full, blocks_full, locals_listed, blocks_listed, block_names, block_free, params_free, Naming}
+use Rattle.ms_again.proofs.Fine.{IsFine, IsGood, IsGoodVal, IsGoodBlock, each_join}
+use Rattle.ms_again.proofs.Names.{full, shown, named_by, named_full, locals_by, blocks_by, locals_full, blocks_full, locals_listed, blocks_listed, block_names, block_free, params_free, Naming}
 use Rattle.ms_again.proofs.ShownNames.{local_count}
 use Rattle.ms_again.proofs.Again.{renaming}
 use Rattle.ms_again.proofs.Right.{named_same, AreApart, IsRight, right, MayBeGood, names_in, shown_good, shown_apart, apart_some, good_some}

