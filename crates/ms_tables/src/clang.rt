@@ -6,10 +6,7 @@ use std::test::Fail;
 fn lines_in_the_style_of_clang(rt: HostRuntime) -> Result<(), Fail> {
     let rows: [(&str, &str); 26] = [
         ("; ModuleID = 'sum.c'", ""),
-        (
-            "source_filename = \"sum.c\"",
-            "source_filename = \"sum.c\"",
-        ),
+        ("source_filename = \"sum.c\"", "source_filename = \"sum.c\""),
         (
             "target triple = \"x86_64-unknown-linux-gnu\"",
             "target triple = \"x86_64-unknown-linux-gnu\"",
@@ -29,10 +26,7 @@ fn lines_in_the_style_of_clang(rt: HostRuntime) -> Result<(), Fail> {
             "  store i32 %4, ptr %0, align 4, !tbaa !5",
             "  store i32 %4, ptr %0, align 4, !tbaa !5",
         ),
-        (
-            "  %5 = icmp sgt i32 %4, 100",
-            "  %5 = icmp sgt i32 %4, 100",
-        ),
+        ("  %5 = icmp sgt i32 %4, 100", "  %5 = icmp sgt i32 %4, 100"),
         (
             "  br i1 %5, label %6, label %7",
             "  br i1 %5, label %6, label %7",
@@ -66,10 +60,7 @@ fn lines_in_the_style_of_clang(rt: HostRuntime) -> Result<(), Fail> {
             "!0 = !{i32 1, !\"wchar_size\", i32 4}",
         ),
         ("!5 = !{!6, !6, i64 0}", "!5 = !{!6, !6, i64 0}"),
-        (
-            "!6 = !{!\"int\", !7, i64 0}",
-            "!6 = !{!\"int\", !7, i64 0}",
-        ),
+        ("!6 = !{!\"int\", !7, i64 0}", "!6 = !{!\"int\", !7, i64 0}"),
         (
             "!7 = !{!\"omnipotent char\", !8, i64 0}",
             "!7 = !{!\"omnipotent char\", !8, i64 0}",

@@ -23,7 +23,10 @@ fn texts_of_modules(rt: HostRuntime) -> Result<(), Fail> {
     let rows: [(&str, (usize, u32)); 8] = [
         ("", (0, 0)),
         ("; nothing\n\n \t\n", (0, 0)),
-        ("@g = global i8 0\ndefine void @f() {\n  ret void\n}\n", (4, 4)),
+        (
+            "@g = global i8 0\ndefine void @f() {\n  ret void\n}\n",
+            (4, 4),
+        ),
         ("define void @f() {\nret void\n}", (3, 3)),
         (
             "\ndefine void @f() {\n\na: ; here\n  br label %b\n\nb:\n  %x = phi i8 [ 0, %a ]\n\n  unreachable\n\n}\n\n",
@@ -71,7 +74,10 @@ fn first_lines_that_fail(rt: HostRuntime) -> Result<(), Fail> {
         ("define void @f() {\n  ret void\n  ret void\n", 3),
         ("define void @f() {\n  ret void\n  %a = alloca i8\n", 3),
         ("define void @f() {\n  ret void\n  store i8 0, ptr %p\n", 3),
-        ("define void @f() {\n  ret void\n  %x = phi i8 [ 0, %a ]\n", 3),
+        (
+            "define void @f() {\n  ret void\n  %x = phi i8 [ 0, %a ]\n",
+            3,
+        ),
         ("define void @f() {\n  ret void\na:\n  %x = alloca i8\n", 4),
         (
             "define void @f() {\n  %a = alloca i8\n  %x = phi i8 [ 0, %a ]\n",
@@ -87,7 +93,11 @@ fn first_lines_that_fail(rt: HostRuntime) -> Result<(), Fail> {
         ("!0 = !{}\nswitch i32 %x\n}\n", 2),
     ];
     for (text, line) in &rows {
-        assert_eq!(rt; told(rt.alloc(), text.as_bytes()), Err(ReadFault::Text(*line)), "{text}");
+        assert_eq!(rt;
+            told(rt.alloc(), text.as_bytes()),
+            Err(ReadFault::Text(*line)),
+            "{text}"
+        );
     }
     Ok(())
 }
@@ -145,18 +155,34 @@ fn counts_of_a_module(rt: HostRuntime) -> Result<(), Fail> {
     let rows: [((&str, &str, &str), usize, u32); 6] = [
         (("", "define void @f() {\n  ret void\n}\n", ""), 256, 769),
         (
-            ("declare void @f()\n", "define void @f() {\n  ret void\n}\n", ""),
+            (
+                "declare void @f()\n",
+                "define void @f() {\n  ret void\n}\n",
+                "",
+            ),
             256,
             770,
         ),
-        (("define void @f() {\n", "a:\n  ret void\n", "}\n"), 1024, 2050),
         (
-            ("define void @f() {\n  ret void\n", "a:\n  ret void\n", "}\n"),
+            ("define void @f() {\n", "a:\n  ret void\n", "}\n"),
+            1024,
+            2050,
+        ),
+        (
+            (
+                "define void @f() {\n  ret void\n",
+                "a:\n  ret void\n",
+                "}\n",
+            ),
             1023,
             2049,
         ),
         (
-            ("define void @f() {\n", "  store i8 0, ptr %p\n", "  ret void\n}\n"),
+            (
+                "define void @f() {\n",
+                "  store i8 0, ptr %p\n",
+                "  ret void\n}\n",
+            ),
             4096,
             4098,
         ),
@@ -175,7 +201,11 @@ fn counts_of_a_module(rt: HostRuntime) -> Result<(), Fail> {
         let (count, last) = told(alloc, reached.bytes())?;
         assert_eq!(rt; count, last as usize, "{line}");
         let passed = repeated(alloc, *parts, *most + 1)?;
-        assert_eq!(rt; told(alloc, passed.bytes()), Err(ReadFault::Limit(*line)), "{line}");
+        assert_eq!(rt;
+            told(alloc, passed.bytes()),
+            Err(ReadFault::Limit(*line)),
+            "{line}"
+        );
     }
     Ok(())
 }

@@ -59,10 +59,7 @@ fn instructions_in_each_form(rt: HostRuntime) -> Result<(), Fail> {
             "  %3 = tail call i8 @f(i1 true true, ptr align 8 \"a\" #1 f(2) %p)",
         ),
         ("%r = add i8 %a, %b", "  %r = add i8 %a, %b"),
-        (
-            "%r = add nuw nsw i8 %a,255",
-            "  %r = add nuw nsw i8 %a, -1",
-        ),
+        ("%r = add nuw nsw i8 %a,255", "  %r = add nuw nsw i8 %a, -1"),
         ("%r = sub nuw i8 1, %b", "  %r = sub nuw i8 1, %b"),
         (
             "%r = mul nuw nsw i64 %a, -1, !a !b",
@@ -122,10 +119,7 @@ fn instructions_in_each_form(rt: HostRuntime) -> Result<(), Fail> {
             "  %r = phi ptr [ @g, %0 ], [ %q, %b ], !a !b",
         ),
         ("br label %a", "  br label %a"),
-        (
-            "br label %0, !llvm.loop !0",
-            "  br label %0, !llvm.loop !0",
-        ),
+        ("br label %0, !llvm.loop !0", "  br label %0, !llvm.loop !0"),
         (
             "br i1 true,label %a,label %1",
             "  br i1 true, label %a, label %1",
