@@ -39,57 +39,59 @@ fn groups(alloc: Global) -> Result<Groups, NoMemory> {
     Ok(list)
 }
 
+// Attributes of a function or a call, and the flags that they give.
+const FLAGS: [(&str, &str); 35] = [
+    ("memory(argmem: none)", "------"),
+    ("memory(argmem: write)", "-w----"),
+    ("memory(argmem: readwrite)", "rw----"),
+    ("memory(inaccessiblemem: read)", "----r-"),
+    ("memory(inaccessiblemem: write)", "-----w"),
+    ("memory(inaccessiblemem: readwrite)", "----rw"),
+    ("memory(readwrite, inaccessiblemem: none)", "rwrw--"),
+    ("memory(inaccessiblemem: none, readwrite)", "rwrw--"),
+    (
+        "memory(argmem: write, inaccessiblemem: read, read)",
+        "-wr-r-",
+    ),
+    ("memory(errnomem: readwrite)", "--rw--"),
+    ("memory(errnomem: read, target_mem0: write)", "--rw--"),
+    ("memory(write, errnomem: read)", "-wrw-w"),
+    ("memory(errnomem: read, none)", "--r---"),
+    ("memory(read, none, argmem: write, argmem: read)", "r-----"),
+    ("memory(none, readwrite)", "rwrwrw"),
+    ("memory(,)", "rwrwrw"),
+    ("memory(argmem:)", "rwrwrw"),
+    ("memory(: read)", "rwrwrw"),
+    ("memory(read write)", "rwrwrw"),
+    ("memory(argmem: read write)", "rwrwrw"),
+    ("memory(argmem: argmem)", "rwrwrw"),
+    ("memory(argmem: none, 1)", "rwrwrw"),
+    ("memory([none])", "rwrwrw"),
+    ("memory() memory(none)", "------"),
+    (
+        "memory(argmem: readwrite) memory(argmem: read, inaccessiblemem: read)",
+        "r-----",
+    ),
+    (
+        "!a !b memory(read) align 8 \"memory(none)\"=\"x\"",
+        "r-r-r-",
+    ),
+    ("memory none", "rwrwrw"),
+    ("#0 #0", "r-r-r-"),
+    ("#1", "rwrwrw"),
+    ("#1 memory(write)", "-w-w-w"),
+    ("#2", "r-----"),
+    ("#0 !a !b #2", "r-----"),
+    ("#3", "rwrwrw"),
+    ("#4 #0", "r-r-r-"),
+    ("\"#0\"=\"#0\" f(#0)", "rwrwrw"),
+];
+
 #[test]
 fn flags_of_attributes(rt: HostRuntime) -> Result<(), Fail> {
     let alloc = rt.alloc();
-    let rows: [(&str, &str); 35] = [
-        ("memory(argmem: none)", "------"),
-        ("memory(argmem: write)", "-w----"),
-        ("memory(argmem: readwrite)", "rw----"),
-        ("memory(inaccessiblemem: read)", "----r-"),
-        ("memory(inaccessiblemem: write)", "-----w"),
-        ("memory(inaccessiblemem: readwrite)", "----rw"),
-        ("memory(readwrite, inaccessiblemem: none)", "rwrw--"),
-        ("memory(inaccessiblemem: none, readwrite)", "rwrw--"),
-        (
-            "memory(argmem: write, inaccessiblemem: read, read)",
-            "-wr-r-",
-        ),
-        ("memory(errnomem: readwrite)", "--rw--"),
-        ("memory(errnomem: read, target_mem0: write)", "--rw--"),
-        ("memory(write, errnomem: read)", "-wrw-w"),
-        ("memory(errnomem: read, none)", "--r---"),
-        ("memory(read, none, argmem: write, argmem: read)", "r-----"),
-        ("memory(none, readwrite)", "rwrwrw"),
-        ("memory(,)", "rwrwrw"),
-        ("memory(argmem:)", "rwrwrw"),
-        ("memory(: read)", "rwrwrw"),
-        ("memory(read write)", "rwrwrw"),
-        ("memory(argmem: read write)", "rwrwrw"),
-        ("memory(argmem: argmem)", "rwrwrw"),
-        ("memory(argmem: none, 1)", "rwrwrw"),
-        ("memory([none])", "rwrwrw"),
-        ("memory() memory(none)", "------"),
-        (
-            "memory(argmem: readwrite) memory(argmem: read, inaccessiblemem: read)",
-            "r-----",
-        ),
-        (
-            "!a !b memory(read) align 8 \"memory(none)\"=\"x\"",
-            "r-r-r-",
-        ),
-        ("memory none", "rwrwrw"),
-        ("#0 #0", "r-r-r-"),
-        ("#1", "rwrwrw"),
-        ("#1 memory(write)", "-w-w-w"),
-        ("#2", "r-----"),
-        ("#0 !a !b #2", "r-----"),
-        ("#3", "rwrwrw"),
-        ("#4 #0", "r-r-r-"),
-        ("\"#0\"=\"#0\" f(#0)", "rwrwrw"),
-    ];
     let list = groups(alloc)?;
-    for (post, wanted) in &rows {
+    for (post, wanted) in &FLAGS {
         let text = Text::from_bytes(alloc, post.as_bytes())?;
         let flags = letters(effects_by(alloc, &text, &list)?);
         assert_eq!(rt; flags.as_slice(), wanted.as_bytes(), "for {post}");
@@ -97,20 +99,22 @@ fn flags_of_attributes(rt: HostRuntime) -> Result<(), Fail> {
     Ok(())
 }
 
+// Attributes of a parameter or an argument, and whether a pointer may be kept.
+const KEPT: [(&str, bool); 8] = [
+    ("noundef captures(none) readonly", false),
+    ("captures(address) captures(none)", false),
+    ("nocapture captures(address)", false),
+    ("captures(ret: address, none)", true),
+    ("captures()", true),
+    ("f(captures(none))", true),
+    ("\"captures(none)\" \"nocapture\"=\"nocapture\"", true),
+    ("readonly align 8", true),
+];
+
 #[test]
 fn pointers_that_are_kept(rt: HostRuntime) -> Result<(), Fail> {
     let alloc = rt.alloc();
-    let rows: [(&str, bool); 8] = [
-        ("noundef captures(none) readonly", false),
-        ("captures(address) captures(none)", false),
-        ("nocapture captures(address)", false),
-        ("captures(ret: address, none)", true),
-        ("captures()", true),
-        ("f(captures(none))", true),
-        ("\"captures(none)\" \"nocapture\"=\"nocapture\"", true),
-        ("readonly align 8", true),
-    ];
-    for (attrs, wanted) in &rows {
+    for (attrs, wanted) in &KEPT {
         let text = Text::from_bytes(alloc, attrs.as_bytes())?;
         assert_eq!(rt; keeps_by(alloc, &text)?, *wanted, "for {attrs}");
     }

@@ -2,6 +2,8 @@
 use ms_ir::{NoMemory, Text};
 use ms_line::{LineFault, read_line, write_line};
 use std::alloc::Global;
+use std::process::Abort;
+use std::test::Fail;
 
 /// What stands in a table for a line that is in no grammar.
 pub const NO_LINE: &str = "not of the profile";
@@ -24,4 +26,22 @@ pub fn told(alloc: Global, line: &[u8]) -> Result<Text, NoMemory> {
         Err(LineFault::TooLong) => Text::from_bytes(alloc, PAST.as_bytes()),
         Err(LineFault::Memory) => Err(NoMemory),
     }
+}
+
+/// Expects each line to be printed so, or not to be read for this cause.
+pub fn expect(rt: &impl Abort, alloc: Global, rows: &[(&str, &str)]) -> Result<(), Fail> {
+    for (line, wanted) in rows {
+        let text = told(alloc, line.as_bytes())?;
+        assert_eq!(rt; text.bytes(), wanted.as_bytes(), "{line}");
+    }
+    Ok(())
+}
+
+/// Expects each line to be in no grammar.
+pub fn expect_none(rt: &impl Abort, alloc: Global, lines: &[&str]) -> Result<(), Fail> {
+    for line in lines {
+        let text = told(alloc, line.as_bytes())?;
+        assert_eq!(rt; text.bytes(), NO_LINE.as_bytes(), "{line}");
+    }
+    Ok(())
 }
