@@ -15,4 +15,6 @@ mod numbers;
 #[cfg(test)]
 mod outside;
 #[cfg(test)]
+mod sorts;
+#[cfg(test)]
 mod told;
