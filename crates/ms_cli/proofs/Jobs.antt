@@ -1,102 +1,93 @@
--- A run has one job at most, and what follows from it. The laws of reading and of annotated texts are premises here.
-use Rattle.std.proofs.Common.{◌≡◌, ◌<◌, ◌≤◌, ℕ, List, ◌++◌, length, ◌⊎◌, inl, inr, Option, Some, None, IsSome, IfSome, refl, ap, sym, ◌∙◌, subst, arith}
+-- A run has one job at most, and what follows from it. The laws of outputs are premises here.
+use Rattle.std.proofs.Common.{◌≡◌, ◌<◌, ◌≤◌, ℕ, List, length, ◌⊎◌, inl, inr, Option, Some, None, IsSome, IfSome, refl, ap, sym, ◌∙◌, subst, arith}
 use Rattle.ms_io.specs.Faults.{Rose}
-use Rattle.ms_ir.specs.Func.{FuncState}
-use Rattle.ms_first.specs.Text.{printed}
-use Rattle.ms_first.specs.Nearest.{IsNearest}
-use Rattle.ms_first.specs.OneText.{IsOneText, IsRefusedAt, IsSameFunc}
-use Rattle.ms_cli.specs.Words.{file_of}
-use Rattle.ms_cli.specs.Job.{limit, Job, BadWords, Refuses, Writes, form_text, IsOutput, IsWritten, IsTooLong, IsBadLine, IsJob, IsTold, status_of}
-use Rattle.ms_cli.specs.Run.{FilesSeen, SinkSeen, IsLoaded, HasRun}
+use Rattle.ms_output.specs.Output.{limit, IsOutput, IsRefusal}
+use Rattle.ms_output.specs.declared.refusal.Refusal.{Refusal}
+use Rattle.ms_output.specs.declared.wanted.Wanted.{Wanted}
+use Rattle.ms_cli.specs.Words.{Asked, asked_of}
+use Rattle.ms_cli.specs.Job.{Job, BadWords, Refuses, Writes, IsLoaded, IsWritten, IsTooLong, IsBadFile, IsRefused, IsJob, IsTold, status_of}
+use Rattle.ms_cli.specs.Run.{FilesSeen, SinkSeen, IsFailed, HasRun}
 use Rattle.ms_cli.specs.declared.status.Status.{Status}
 use Rattle.ms_cli.specs.declared.status.Status.TheVariants.{Done, Refused, Usage, ReadFault, WriteFault, Memory}
 
--- a text is read as one function at most, or refused at one line at most, and never both
-pub record IsReadOnce : Type 0 where
-  pub function : (bytes : List ℕ) (f g : FuncState) → IsOneText bytes f → IsOneText bytes g → IsSameFunc f g
-  pub line : (bytes : List ℕ) (m n : ℕ) → IsRefusedAt bytes m → IsRefusedAt bytes n → m ≡ n
-  pub apart : (bytes : List ℕ) (f : FuncState) (n : ℕ) → IsOneText bytes f → IsRefusedAt bytes n → ⊥
+-- bytes have one output at most, or one refusal at most, and never both
+pub record IsOneOutput : Type 0 where
+  pub text : (wanted : Wanted) (bytes t u : List ℕ) → IsOutput wanted bytes t → IsOutput wanted bytes u → t ≡ u
+  pub refusal : (bytes : List ℕ) (r s : Refusal) → IsRefusal bytes r → IsRefusal bytes s → r ≡ s
+  pub apart : (wanted : Wanted) (bytes t : List ℕ) (r : Refusal) → IsOutput wanted bytes t → IsRefusal bytes r → ⊥
 
--- a function has one annotated text at most
-abbrev pub IsAnnotatedOnce : Type 0
-IsAnnotatedOnce = (f g : FuncState) (t u : List ℕ) → f.name ≡ g.name → f.blocks ≡ g.blocks → IsNearest f t → IsNearest g u → t ≡ u
-
-loaded_of_written : {holds : List ℕ → Option (List ℕ)} {words : List (List ℕ)} {text : List ℕ} (w : IsWritten holds words text) → IsLoaded holds words w.bytes
-loaded_of_written w = record { name = w.name; named = w.named; held = w.held; short = w.short }
-
-loaded_of_bad : {holds : List ℕ → Option (List ℕ)} {words : List (List ℕ)} {n p : ℕ} (b : IsBadLine holds words n p) → IsLoaded holds words b.bytes
-loaded_of_bad b = record { name = b.name; named = b.named; held = b.held; short = b.short }
+some_same : (a b : Asked) → Some a ≡ Some b → a ≡ b
+some_same a b e = cc
 
 all_same : (o : Option (List ℕ)) (x y : List ℕ) → IsSome o → IfSome o (λ all. x ≡ all) → IfSome o (λ all. y ≡ all) → x ≡ y
 all_same None x y s p q = cc
 all_same (Some all) x y s p q = p ∙ sym q
 
-bytes_same : {holds : List ℕ → Option (List ℕ)} {words : List (List ℕ)} {x y : List ℕ} → IsTold holds words → IsLoaded holds words x → IsLoaded holds words y → x ≡ y
-bytes_same {holds} {words} {x} {y} told p q =
-    let e : q.name ≡ p.name = cc (p.named, q.named) in
-    let P : List ℕ → Type 0 = λ n. IfSome (holds n) (λ all. y ≡ all) in
-    all_same (holds p.name) x y (told p.name p.named) p.held (subst P e q.held)
+asked_same : {holds : List ℕ → Option (List ℕ)} {words : List (List ℕ)} {a b : Asked} {x y : List ℕ} → IsLoaded holds words a x → IsLoaded holds words b y → a ≡ b
+asked_same {a = a} {b = b} p q = some_same a b (sym p.asked_is ∙ q.asked_is)
+
+bytes_same : {holds : List ℕ → Option (List ℕ)} {words : List (List ℕ)} {a b : Asked} {x y : List ℕ} → IsTold holds words → IsLoaded holds words a x → IsLoaded holds words b y → x ≡ y
+bytes_same {holds} {words} {a} {b} {x} {y} told p q =
+    let P : Asked → Type 0 = λ k. IfSome (holds k.file) (λ all. y ≡ all) in
+    all_same (holds a.file) x y (told a p.asked_is) p.held (subst P (sym (asked_same p q)) q.held)
 
 short_and_long : (o : Option (List ℕ)) (x : List ℕ) → IsSome o → IfSome o (λ all. x ≡ all) → length x ≤ limit → IfSome o (λ all. limit < length all) → ⊥
 short_and_long None x s p h k = cc
 short_and_long (Some all) x s p h k = omega (arith, h, k, ap length p)
 
-not_long : {holds : List ℕ → Option (List ℕ)} {words : List (List ℕ)} {x : List ℕ} {n p : ℕ} → IsTold holds words → IsLoaded holds words x → IsTooLong holds words n p → ⊥
-not_long {holds} {words} {x} told l t =
-    let e : t.name ≡ l.name = cc (l.named, t.named) in
-    let P : List ℕ → Type 0 = λ n. IfSome (holds n) (λ all. limit < length all) in
-    short_and_long (holds l.name) x (told l.name l.named) l.held l.short (subst P e t.long)
+not_long : {holds : List ℕ → Option (List ℕ)} {words : List (List ℕ)} {a : Asked} {x : List ℕ} {r : Refusal} → IsTold holds words → IsLoaded holds words a x → IsTooLong holds words r → ⊥
+not_long {holds} {words} {a} {x} told l t =
+    let P : Asked → Type 0 = λ k. IfSome (holds k.file) (λ all. limit < length all) in
+    let e : t.asked ≡ a = some_same t.asked a (sym t.asked_is ∙ l.asked_is) in
+    short_and_long (holds a.file) x (told a l.asked_is) l.held l.short (subst P e t.long)
 
-same_form : (f g : FuncState) (t u : List ℕ) → f.name ≡ g.name → f.blocks ≡ g.blocks → t ≡ u → form_text f.name t ++ printed f ≡ form_text g.name u ++ printed g
-same_form f g t u n b e = cc
+refused_same : IsOneOutput → {holds : List ℕ → Option (List ℕ)} {words : List (List ℕ)} {r s : Refusal} → IsTold holds words → IsRefused holds words r → IsRefused holds words s → r ≡ s
+refused_same one told (inl a) (inl b) = a.refusal_is ∙ sym b.refusal_is
+refused_same one told (inl a) (inr b) = absurd (not_long told b.loaded a)
+refused_same one told (inr a) (inl b) = absurd (not_long told a.loaded b)
+refused_same one {r = r} {s = s} told (inr a) (inr b) =
+    one.refusal a.bytes r s a.refusal (subst (λ (k : List ℕ). IsRefusal k s) (bytes_same told b.loaded a.loaded) b.refusal)
 
-output_same : IsReadOnce → IsAnnotatedOnce → {bytes x y : List ℕ} → IsOutput bytes x → IsOutput bytes y → x ≡ y
-output_same reading notes {bytes} p q =
-    let s = reading.function bytes p.f q.f p.read q.read in
-    let e = notes p.f q.f _ _ s.name_same s.blocks_same p.formed.nearest q.formed.nearest in
-    p.formed.text_is ∙ same_form p.f q.f _ _ s.name_same s.blocks_same e ∙ sym q.formed.text_is
+refused_asks : {holds : List ℕ → Option (List ℕ)} {words : List (List ℕ)} {r : Refusal} → IsRefused holds words r → (asked : Asked) × (asked_of words ≡ Some asked)
+refused_asks (inl a) = (a.asked, a.asked_is)
+refused_asks (inr b) = (b.asked, b.loaded.asked_is)
 
-refusal_same : IsReadOnce → {holds : List ℕ → Option (List ℕ)} {words : List (List ℕ)} {m p n q : ℕ} → IsTold holds words
-    → IsTooLong holds words m p ⊎ IsBadLine holds words m p → IsTooLong holds words n q ⊎ IsBadLine holds words n q → Refuses m p ≡ Refuses n q
-refusal_same reading told (inl a) (inl b) = cc (a.number_is, a.place_is, b.number_is, b.place_is)
-refusal_same reading told (inl a) (inr b) = absurd (not_long told (loaded_of_bad b) a)
-refusal_same reading told (inr a) (inl b) = absurd (not_long told (loaded_of_bad a) b)
-refusal_same reading {m = m} {p = p} {n = n} {q = q} told (inr a) (inr b) =
-    let P : List ℕ → Type 0 = λ x. IsRefusedAt x q in
-    let e = reading.line a.bytes p q a.refused (subst P (bytes_same told (loaded_of_bad b) (loaded_of_bad a)) b.refused) in
-    cc (a.number_is, b.number_is, e)
+not_both : IsOneOutput → {holds : List ℕ → Option (List ℕ)} {words : List (List ℕ)} {r : Refusal} {text : List ℕ} → IsTold holds words → IsRefused holds words r → IsWritten holds words text → ⊥
+not_both one told (inl a) w = not_long told w.loaded a
+not_both one {r = r} {text = text} told (inr b) w =
+    one.apart w.asked.wanted w.bytes text r w.output (subst (λ (k : List ℕ). IsRefusal k r) (bytes_same told b.loaded w.loaded) b.refusal)
 
-refusal_name : {holds : List ℕ → Option (List ℕ)} {words : List (List ℕ)} {m p : ℕ} → IsTooLong holds words m p ⊎ IsBadLine holds words m p → (name : List ℕ) × (file_of words ≡ Some name)
-refusal_name (inl a) = (a.name, a.named)
-refusal_name (inr b) = (b.name, b.named)
+text_same : IsOneOutput → {holds : List ℕ → Option (List ℕ)} {words : List (List ℕ)} {x y : List ℕ} → IsTold holds words → IsWritten holds words x → IsWritten holds words y → x ≡ y
+text_same one {x = x} {y = y} told w v =
+    let asked = asked_same v.loaded w.loaded in
+    let bytes = bytes_same told v.loaded w.loaded in
+    one.text w.asked.wanted w.bytes x y w.output
+    (subst (λ (k : List ℕ). IsOutput w.asked.wanted k y) bytes (subst (λ (k : Asked). IsOutput k.wanted v.bytes y) asked v.output))
 
-not_both : IsReadOnce → {holds : List ℕ → Option (List ℕ)} {words : List (List ℕ)} {m p : ℕ} {text : List ℕ} → IsTold holds words
-    → IsTooLong holds words m p ⊎ IsBadLine holds words m p → IsWritten holds words text → ⊥
-not_both reading told (inl a) w = not_long told (loaded_of_written w) a
-not_both reading {p = p} told (inr b) w =
-    let P : List ℕ → Type 0 = λ x. IsRefusedAt x p in
-    reading.apart w.bytes w.output.f p w.output.read (subst P (bytes_same told (loaded_of_bad b) (loaded_of_written w)) b.refused)
+none_and_some : (words : List (List ℕ)) (asked : Asked) → asked_of words ≡ None → asked_of words ≡ Some asked → ⊥
+none_and_some words asked p q = let e : None ≡ Some asked = sym p ∙ q in absurd (cc)
 
-text_same : IsReadOnce → IsAnnotatedOnce → {holds : List ℕ → Option (List ℕ)} {words : List (List ℕ)} {x y : List ℕ} → IsTold holds words
-    → IsWritten holds words x → IsWritten holds words y → x ≡ y
-text_same reading notes {y = y} told w v =
-    let P : List ℕ → Type 0 = λ b. IsOutput b y in
-    output_same reading notes w.output (subst P (bytes_same told (loaded_of_written v) (loaded_of_written w)) v.output)
+abbrev refuses : Refusal → Job
+refuses r = Refuses r.number r.place
 
 -- where the files tell, a run has one job at most
 abbrev pub IsDecided : Type 0
 IsDecided = (holds : List ℕ → Option (List ℕ)) (words : List (List ℕ)) (a b : Job) → IsTold holds words → IsJob holds words a → IsJob holds words b → a ≡ b
 
-pub one_job_by : IsReadOnce → IsAnnotatedOnce → IsDecided
-one_job_by reading notes holds words BadWords BadWords told p q = refl
-one_job_by reading notes holds words BadWords (Refuses m n) told p q = let e = refusal_name q in cc (e.1, p)
-one_job_by reading notes holds words BadWords (Writes x) told p q = cc (q.named, p)
-one_job_by reading notes holds words (Refuses m n) BadWords told p q = let e = refusal_name p in cc (e.1, q)
-one_job_by reading notes holds words (Refuses m n) (Refuses k l) told p q = refusal_same reading told p q
-one_job_by reading notes holds words (Refuses m n) (Writes x) told p q = absurd (not_both reading told p q)
-one_job_by reading notes holds words (Writes x) BadWords told p q = cc (p.named, q)
-one_job_by reading notes holds words (Writes x) (Refuses m n) told p q = absurd (not_both reading told q p)
-one_job_by reading notes holds words (Writes x) (Writes y) told p q = ap Writes (text_same reading notes told p q)
+pub one_job_by : IsOneOutput → IsDecided
+one_job_by one holds words BadWords BadWords told p q = refl
+one_job_by one holds words BadWords (Refuses m n) told p q = let e = refused_asks q in absurd (none_and_some words e.0 p e.1)
+one_job_by one holds words BadWords (Writes x) told p q = absurd (none_and_some words q.asked p q.loaded.asked_is)
+one_job_by one holds words (Refuses m n) BadWords told p q = let e = refused_asks p in absurd (none_and_some words e.0 q e.1)
+one_job_by one holds words (Refuses m n) (Refuses k l) told p q = ap refuses (refused_same one told p q)
+one_job_by one holds words (Refuses m n) (Writes x) told p q = absurd (not_both one told p q)
+one_job_by one holds words (Writes x) BadWords told p q = absurd (none_and_some words p.asked q p.loaded.asked_is)
+one_job_by one holds words (Writes x) (Refuses m n) told p q = absurd (not_both one told q p)
+one_job_by one holds words (Writes x) (Writes y) told p q = ap Writes (text_same one told p q)
+
+failed : (seen : FilesSeen) (o : Option Asked) → IfSome o (λ asked. IsFailed seen asked.file) → IsSome o → Rose seen.faults_before seen.faults_after
+failed seen None f s = absurd (cc)
+failed seen (Some asked) f s = f.risen
 
 -- a run in which no count rose did the job, or found no memory
 pub complete_by : IsDecided → (seen : FilesSeen) (out : SinkSeen) (words : List (List ℕ)) (status : Status) (job : Job) → HasRun seen out words status → IsTold seen.holds words → IsJob seen.holds words job
@@ -104,6 +95,6 @@ pub complete_by : IsDecided → (seen : FilesSeen) (out : SinkSeen) (words : Lis
 complete_by one seen out words Done job r told j read written = inl (ap status_of (one seen.holds words (Writes r.text) job told r.job j))
 complete_by one seen out words (Refused n) job r told j read written = inl (ap status_of (one seen.holds words (Refuses n.number n.place) job told r.undone.0 j))
 complete_by one seen out words Usage job r told j read written = inl (ap status_of (one seen.holds words BadWords job told r.undone.0 j))
-complete_by one seen out words ReadFault job r told j read written = absurd (read r.undone.risen)
+complete_by one seen out words ReadFault job r told j read written = absurd (read (failed seen (asked_of words) r.undone.0 r.undone.1))
 complete_by one seen out words WriteFault job r told j read written = absurd (written r.taken.risen)
 complete_by one seen out words Memory job r told j read written = inr refl

@@ -1,35 +1,10 @@
 -- What a run has to do: it is decided by the words, and by what the files hold.
-use Rattle.std.specs.Prelude.{◌≡◌, ◌<◌, ◌≤◌, ℕ, ◌⊎◌, List, ◌++◌, length, Option, Some, None, IfSome, IsSome, codes}
-use Rattle.ms_ir.specs.Func.{FuncState}
-use Rattle.ms_first.specs.Text.{printed, new_line}
-use Rattle.ms_first.specs.Nearest.{IsNearest}
-use Rattle.ms_first.specs.OneText.{IsOneText, IsRefusedAt}
-use Rattle.ms_cli.specs.Words.{file_of}
+use Rattle.std.specs.Prelude.{◌≡◌, ◌<◌, ◌≤◌, ℕ, ◌⊎◌, List, length, Option, Some, None, IfSome, IsSome}
+use Rattle.ms_output.specs.Output.{limit, IsOutput, IsRefusal, IsFuncIn}
+use Rattle.ms_output.specs.declared.refusal.Refusal.{Refusal}
+use Rattle.ms_cli.specs.Words.{Asked, asked_of}
 use Rattle.ms_cli.specs.declared.status.Status.{Status}
 use Rattle.ms_cli.specs.declared.status.Status.TheVariants.{Done, Refused, Usage}
-
--- the greatest length of a file, in bytes
-abbrev pub limit : ℕ
-limit = 1048576
-
-unfoldable pub header_part : List ℕ
-header_part = codes "MemorySSA for function: "
-
--- a printed form: a header line, the annotated text, an empty line
-abbrev pub form_text : List ℕ → List ℕ → List ℕ
-form_text name text = header_part ++ name ++ new_line ++ text ++ new_line
-
--- The text is what is written for this function: its printed form, then its own text.
-pub record IsFormed (f : FuncState) (text : List ℕ) : Type 0 where
-  pub annotated : List ℕ
-  pub nearest : IsNearest f annotated
-  pub text_is : text ≡ form_text f.name annotated ++ printed f
-
--- the text is what is written for the function of these bytes
-pub record IsOutput (bytes text : List ℕ) : Type 0 where
-  pub f : FuncState
-  pub read : IsOneText bytes f
-  pub formed : IsFormed f text
 
 -- to say that the words are not of the command, to refuse the file with a number and a place, or to write a text
 pub data Job : Type 0 where
@@ -41,41 +16,58 @@ pub data Job : Type 0 where
 abbrev pub AreHeld : (List ℕ → Option (List ℕ)) → List ℕ → List ℕ → Type 0
 AreHeld holds name bytes = IfSome (holds name) (λ all. bytes ≡ all)
 
--- the file that the words name is not too long, and this is its output
-pub record IsWritten (holds : List ℕ → Option (List ℕ)) (words : List (List ℕ)) (text : List ℕ) : Type 0 where
-  pub name : List ℕ
-  pub bytes : List ℕ
-  pub named : file_of words ≡ Some name
-  pub held : AreHeld holds name bytes
+-- the words ask for this, and the file that they name is not too long and holds these bytes
+pub record IsLoaded (holds : List ℕ → Option (List ℕ)) (words : List (List ℕ)) (asked : Asked) (bytes : List ℕ) : Type 0 where
+  pub asked_is : asked_of words ≡ Some asked
+  pub held : AreHeld holds asked.file bytes
   pub short : length bytes ≤ limit
-  pub output : IsOutput bytes text
+
+-- this is what is written
+pub record IsWritten (holds : List ℕ → Option (List ℕ)) (words : List (List ℕ)) (text : List ℕ) : Type 0 where
+  pub asked : Asked
+  pub bytes : List ℕ
+  pub loaded : IsLoaded holds words asked bytes
+  pub output : IsOutput asked.wanted bytes text
 
 -- the file that the words name is too long
-pub record IsTooLong (holds : List ℕ → Option (List ℕ)) (words : List (List ℕ)) (number place : ℕ) : Type 0 where
-  pub name : List ℕ
-  pub named : file_of words ≡ Some name
-  pub long : IfSome (holds name) (λ all. limit < length all)
-  pub number_is : number ≡ 10
-  pub place_is : place ≡ 0
+pub record IsTooLong (holds : List ℕ → Option (List ℕ)) (words : List (List ℕ)) (r : Refusal) : Type 0 where
+  pub asked : Asked
+  pub asked_is : asked_of words ≡ Some asked
+  pub long : IfSome (holds asked.file) (λ all. limit < length all)
+  pub refusal_is : r ≡ record { number = 10; place = 0 }
 
--- the file that the words name is not too long, and this is the first line of it that is not of the profile
-pub record IsBadLine (holds : List ℕ → Option (List ℕ)) (words : List (List ℕ)) (number place : ℕ) : Type 0 where
-  pub name : List ℕ
+-- the file that the words name is not too long, and its bytes are refused so
+pub record IsBadFile (holds : List ℕ → Option (List ℕ)) (words : List (List ℕ)) (r : Refusal) : Type 0 where
+  pub asked : Asked
   pub bytes : List ℕ
-  pub named : file_of words ≡ Some name
-  pub held : AreHeld holds name bytes
-  pub short : length bytes ≤ limit
-  pub refused : IsRefusedAt bytes place
-  pub number_is : number ≡ 1
+  pub loaded : IsLoaded holds words asked bytes
+  pub refusal : IsRefusal bytes r
 
+-- the file that the words name is refused so
+abbrev pub IsRefused : (List ℕ → Option (List ℕ)) → List (List ℕ) → Refusal → Type 0
+IsRefused holds words r = IsTooLong holds words r ⊎ IsBadFile holds words r
+
+-- this is what a run with these words has to do
 abbrev pub IsJob : (List ℕ → Option (List ℕ)) → List (List ℕ) → Job → Type 0
-IsJob holds words BadWords = file_of words ≡ None
-IsJob holds words (Refuses number place) = IsTooLong holds words number place ⊎ IsBadLine holds words number place
+IsJob holds words BadWords = asked_of words ≡ None
+IsJob holds words (Refuses number place) = IsRefused holds words (record { number = number; place = place })
 IsJob holds words (Writes text) = IsWritten holds words text
+
+-- this is the name of the function with a number in the module of the file that the words name
+pub record IsFuncOf (holds : List ℕ → Option (List ℕ)) (words : List (List ℕ)) (number : ℕ) (name : List ℕ) : Type 0 where
+  pub asked : Asked
+  pub bytes : List ℕ
+  pub loaded : IsLoaded holds words asked bytes
+  pub func : IsFuncIn bytes number name
+
+-- where a function is refused, this is its name
+abbrev pub IsTheFunc : (List ℕ → Option (List ℕ)) → List (List ℕ) → Status → List ℕ → Type 0
+IsTheFunc holds words (Refused r) name = r.number ≡ 7 → IsFuncOf holds words r.place name
+IsTheFunc holds words _ name = Unit {0}
 
 -- the files tell what the file that the words name holds
 abbrev pub IsTold : (List ℕ → Option (List ℕ)) → List (List ℕ) → Type 0
-IsTold holds words = (name : List ℕ) → file_of words ≡ Some name → IsSome (holds name)
+IsTold holds words = (asked : Asked) → asked_of words ≡ Some asked → IsSome (holds asked.file)
 
 -- the status of a job that was done
 abbrev pub status_of : Job → Status

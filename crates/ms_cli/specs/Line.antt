@@ -1,5 +1,6 @@
 -- The line that tells of a run that was not done.
 use Rattle.std.specs.Prelude.{ℕ, if◌then◌else◌, nat_eq, List, [], ◌++◌, unwrap_or, codes, decimal}
+use Rattle.ms_output.specs.declared.refusal.Refusal.{Refusal}
 use Rattle.ms_cli.specs.Words.{file_of}
 use Rattle.ms_cli.specs.declared.status.Status.{Status}
 use Rattle.ms_cli.specs.declared.status.Status.TheVariants.{Done, Refused, Usage, ReadFault, WriteFault, Memory}
@@ -25,8 +26,18 @@ line_feed = codes "\n"
 unfoldable pub colon : List ℕ
 colon = codes ":"
 
-unfoldable pub not_of_profile : List ℕ
-not_of_profile = codes ": refusal 1: not of the profile\n"
+-- the end of a line that names a line of the file, by the refusal's number
+unfoldable pub reason : ℕ → List ℕ
+reason number =
+    if nat_eq number 2 then codes ": refusal 2: limit passed\n"
+    else if nat_eq number 3 then codes ": refusal 3: name\n"
+    else if nat_eq number 4 then codes ": refusal 4: type\n"
+    else if nat_eq number 5 then codes ": refusal 5: edges\n"
+    else if nat_eq number 6 then codes ": refusal 6: order\n"
+    else codes ": refusal 1: not of the profile\n"
+
+unfoldable pub irreducible : List ℕ
+irreducible = codes ": refusal 7: irreducible loop in @"
 
 unfoldable pub too_long : List ℕ
 too_long = codes ": refusal 10: longer than 1048576 bytes\n"
@@ -34,13 +45,18 @@ too_long = codes ": refusal 10: longer than 1048576 bytes\n"
 abbrev pub named_file : List (List ℕ) → List ℕ
 named_file words = unwrap_or (file_of words) []
 
--- the line for a status, with its end; none where all was done. So far a file is refused with 1 or 10 alone.
-abbrev pub line_for : List (List ℕ) → Status → List ℕ
-line_for words Done = []
-line_for words Usage = usage_line
-line_for words ReadFault = cannot_read ++ named_file words ++ line_feed
-line_for words WriteFault = cannot_write
-line_for words Memory = out_of_memory
-line_for words (Refused r) =
-    if nat_eq r.number 10 then program_part ++ named_file words ++ too_long
-    else program_part ++ named_file words ++ colon ++ decimal r.place ++ not_of_profile
+-- the line for a file that is refused: its name, and the line or the function where one is told
+abbrev pub refused_line : List ℕ → List ℕ → Refusal → List ℕ
+refused_line file func r =
+    if nat_eq r.number 10 then program_part ++ file ++ too_long
+    else if nat_eq r.number 7 then program_part ++ file ++ irreducible ++ func ++ line_feed
+    else program_part ++ file ++ colon ++ decimal r.place ++ reason r.number
+
+-- The line for a status, with its end; none where all was done. A refused function is told by its name.
+abbrev pub line_for : List (List ℕ) → List ℕ → Status → List ℕ
+line_for words func Done = []
+line_for words func Usage = usage_line
+line_for words func ReadFault = cannot_read ++ named_file words ++ line_feed
+line_for words func WriteFault = cannot_write
+line_for words func Memory = out_of_memory
+line_for words func (Refused r) = refused_line (named_file words) func r

@@ -6,6 +6,5 @@ ghost use Rattle.ms_cli.specs.Job.{Job, IsJob, IsTold};
 pub fn one_job()
     ensures { (holds : List ℕ → Option (List ℕ)) (words : List (List ℕ)) (a b : Job) → IsTold holds words → IsJob holds words a → IsJob holds words b → a ≡ b }
 {
-    ms_first::one_reading();
-    ms_one::one_nearest();
+    ms_output::one_output();
 }

@@ -1,5 +1,5 @@
 // The line that tells of a run that was not done. It takes no memory.
-ghost use Rattle.std.specs.Prelude.{◌≡◌, ◌++◌, decimal};
+ghost use Rattle.std.specs.Prelude.{◌≡◌, ◌++◌};
 ghost use Rattle.ms_cli.specs.Line.{
   usage_line,
   cannot_read,
@@ -8,9 +8,11 @@ ghost use Rattle.ms_cli.specs.Line.{
   program_part,
   line_feed,
   colon,
-  not_of_profile,
+  reason,
+  irreducible,
   too_long,
   named_file,
+  refused_line,
   line_for,
 };
 ghost use Rattle.ms_cli.specs.Taken.{TakesAll, TakesFront};
@@ -70,11 +72,31 @@ fn colon_text() -> &'static [u8]
     b":"
 }
 
-#[tactic(auto, unfolding(crate::specs::Line::not_of_profile))]
-fn not_of_profile_text() -> &'static [u8]
-    ensures { result.now ≡ not_of_profile }
+// The end of a line that names a line of the file.
+#[tactic(auto, unfolding(crate::specs::Line::reason))]
+fn reason_text(number: u32) -> &'static [u8]
+    ensures { result.now ≡ reason number }
 {
-    b": refusal 1: not of the profile\n"
+    if number == 2 {
+        b": refusal 2: limit passed\n"
+    } else if number == 3 {
+        b": refusal 3: name\n"
+    } else if number == 4 {
+        b": refusal 4: type\n"
+    } else if number == 5 {
+        b": refusal 5: edges\n"
+    } else if number == 6 {
+        b": refusal 6: order\n"
+    } else {
+        b": refusal 1: not of the profile\n"
+    }
+}
+
+#[tactic(auto, unfolding(crate::specs::Line::irreducible))]
+fn irreducible_text() -> &'static [u8]
+    ensures { result.now ≡ irreducible }
+{
+    b": refusal 7: irreducible loop in @"
 }
 
 #[tactic(auto, unfolding(crate::specs::Line::too_long))]
@@ -99,41 +121,66 @@ fn tell_name<E: Sink>(
     Ok(())
 }
 
-// The line for a text that is not of the profile.
-fn tell_line<E: Sink>(err: &mut E, words: &Words, place: u32) -> Result<(), SinkFault>
-    ensures { TakesAll (program_part ++ named_file words.now ++ colon ++ decimal place ++ not_of_profile) (E.written err.old) (E.written err.new) (E.faults err.old) (E.faults err.new) result }
+// The line for a file in which something is told: a line or a function.
+fn tell_place<E: Sink>(
+    err: &mut E,
+    words: &Words,
+    before: &[u8],
+    place: &[u8],
+    after: &[u8],
+) -> Result<(), SinkFault>
+    ensures { TakesAll (program_part ++ named_file words.now ++ before.now ++ place.now ++ after.now) (E.written err.old) (E.written err.new) (E.faults err.old) (E.faults err.new) result }
 {
-    let mut digits = Buffer::new();
-    tell_name(err, program_text(), words, colon_text())?;
-    write_all(err, digits.format(place).as_bytes())?;
-    write_all(err, not_of_profile_text())?;
+    tell_name(err, program_text(), words, before)?;
+    write_all(err, place)?;
+    write_all(err, after)?;
     Ok(())
+}
+
+// The line for a file that is refused.
+fn tell_refusal<E: Sink>(
+    err: &mut E,
+    words: &Words,
+    func: &[u8],
+    refusal: Refusal,
+) -> Result<(), SinkFault>
+    ensures { TakesAll (refused_line (named_file words.now) func.now refusal) (E.written err.old) (E.written err.new) (E.faults err.old) (E.faults err.new) result }
+{
+    let Refusal { number, place } = refusal;
+    if number == 10 {
+        tell_name(err, program_text(), words, too_long_text())
+    } else if number == 7 {
+        tell_place(err, words, irreducible_text(), func, line_feed_text())
+    } else {
+        let mut digits = Buffer::new();
+        let line = digits.format(place).as_bytes();
+        tell_place(err, words, colon_text(), line, reason_text(number))
+    }
 }
 
 // The line for a status.
-fn write_line<E: Sink>(err: &mut E, words: &Words, status: Status) -> Result<(), SinkFault>
-    ensures { TakesAll (line_for words.now status) (E.written err.old) (E.written err.new) (E.faults err.old) (E.faults err.new) result }
+fn write_line<E: Sink>(
+    err: &mut E,
+    words: &Words,
+    func: &[u8],
+    status: Status,
+) -> Result<(), SinkFault>
+    ensures { TakesAll (line_for words.now func.now status) (E.written err.old) (E.written err.new) (E.faults err.old) (E.faults err.new) result }
 {
     match status {
-        Status::Done => {}
-        Status::Usage => write_all(err, usage_text())?,
-        Status::ReadFault => tell_name(err, cannot_read_text(), words, line_feed_text())?,
-        Status::WriteFault => write_all(err, cannot_write_text())?,
-        Status::Memory => write_all(err, out_of_memory_text())?,
-        Status::Refused(Refusal { number, place }) => {
-            if number == 10 {
-                tell_name(err, program_text(), words, too_long_text())?;
-            } else {
-                tell_line(err, words, place)?;
-            }
-        }
+        Status::Done => Ok(()),
+        Status::Usage => write_all(err, usage_text()),
+        Status::ReadFault => tell_name(err, cannot_read_text(), words, line_feed_text()),
+        Status::WriteFault => write_all(err, cannot_write_text()),
+        Status::Memory => write_all(err, out_of_memory_text()),
+        Status::Refused(refusal) => tell_refusal(err, words, func, refusal),
     }
-    Ok(())
 }
 
-/// Writes the line for a status to `err`: nothing where all was done. It stops at the first fault.
-pub fn tell<E: Sink>(err: &mut E, words: &Words, status: Status)
-    ensures { TakesFront (line_for words.now status) (E.written err.old) (E.written err.new) (E.faults err.old) (E.faults err.new) }
+/// Writes the line for a status to `err`: nothing where all was done. Where a function is refused, it is told by its
+/// name. It stops at the first fault.
+pub fn tell<E: Sink>(err: &mut E, words: &Words, func: &[u8], status: Status)
+    ensures { TakesFront (line_for words.now func.now status) (E.written err.old) (E.written err.new) (E.faults err.old) (E.faults err.new) }
 {
-    let _ = write_line(err, words, status);
+    let _ = write_line(err, words, func, status);
 }

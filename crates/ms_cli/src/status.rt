@@ -1,17 +1,11 @@
-/// Why a module was refused: the number of the refusal, and its place: a line, counted from 1, or 0 where the file is
-/// too long.
-#[derive(Clone, Copy, Debug, PartialEq, Eq)]
-pub struct Refusal {
-    pub number: u32,
-    pub place: u32,
-}
+pub use ms_output::Refusal;
 
 /// How a run ended.
 #[derive(Clone, Copy, Debug, PartialEq, Eq)]
 pub enum Status {
     /// All of the output was written.
     Done,
-    /// The module is not accepted.
+    /// The file is refused: its text, or its length.
     Refused(Refusal),
     /// The words are not those of the command.
     Usage,

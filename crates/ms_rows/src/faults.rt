@@ -1,5 +1,5 @@
 // Reads and writes that fail.
-use crate::row::{MOST, Row, expect, refused, run};
+use crate::row::{MOST, PRINT, Row, expect, refused, run};
 use crate::texts::ONE_BLOCK;
 use ms_cli::Status;
 use std::test::Fail;
@@ -7,7 +7,7 @@ use std::test::Fail;
 #[test]
 fn sink_fails_at_its_second_write(rt: HostRuntime) -> Result<(), Fail> {
     let row = Row {
-        words: &["--passes=print<memoryssa>", "f.ll"],
+        words: &[PRINT, "f.ll"],
         name: "f.ll",
         bytes: ONE_BLOCK,
         reads_that_fail: &[],
@@ -32,7 +32,7 @@ fn file_that_cannot_be_read(rt: HostRuntime) -> Result<(), Fail> {
     let fails: [(&str, &[u64]); 2] = [("other.ll", &[]), ("none.ll", &[1])];
     for (name, reads_that_fail) in fails {
         let row = Row {
-            words: &["--passes=print<memoryssa>", "none.ll"],
+            words: &[PRINT, "none.ll"],
             name,
             bytes: ONE_BLOCK,
             reads_that_fail,
@@ -55,12 +55,11 @@ fn file_that_cannot_be_read(rt: HostRuntime) -> Result<(), Fail> {
 // A sink for the line that fails changes no status.
 #[test]
 fn line_that_cannot_be_written(rt: HostRuntime) -> Result<(), Fail> {
-    let pass = "--passes=print<memoryssa>";
     let rows: [(&[&str], &[u8], &[u64], Status); 4] = [
-        (&[pass], ONE_BLOCK, &[], Status::Usage),
-        (&[pass, "none.ll"], ONE_BLOCK, &[], Status::ReadFault),
-        (&[pass, "f.ll"], b"", &[], refused(1, 1)),
-        (&[pass, "f.ll"], ONE_BLOCK, &[1], Status::WriteFault),
+        (&[PRINT], ONE_BLOCK, &[], Status::Usage),
+        (&[PRINT, "none.ll"], ONE_BLOCK, &[], Status::ReadFault),
+        (&[PRINT, "f.ll"], b"}", &[], refused(1, 1)),
+        (&[PRINT, "f.ll"], ONE_BLOCK, &[1], Status::WriteFault),
     ];
     for (words, bytes, writes_that_fail, status) in rows {
         let row = Row {
@@ -82,9 +81,9 @@ fn line_that_cannot_be_written(rt: HostRuntime) -> Result<(), Fail> {
 #[test]
 fn line_whose_second_part_fails(rt: HostRuntime) -> Result<(), Fail> {
     let row = Row {
-        words: &["--passes=print<memoryssa>", "cut.ll"],
+        words: &[PRINT, "cut.ll"],
         name: "cut.ll",
-        bytes: b"",
+        bytes: b"}",
         reads_that_fail: &[],
         most: MOST,
         writes_that_fail: &[],
@@ -115,7 +114,7 @@ fn pieces_of_4096_bytes(rt: HostRuntime) -> Result<(), Fail> {
     ];
     for (writes_that_fail, status, length) in writes {
         let row = Row {
-            words: &["--passes=print<memoryssa>", "f.ll"],
+            words: &[PRINT, "f.ll"],
             name: "f.ll",
             bytes: text.as_slice(),
             reads_that_fail: &[],

@@ -5,9 +5,13 @@
 #[cfg(test)]
 mod faults;
 #[cfg(test)]
+mod forms;
+#[cfg(test)]
 mod functions;
 #[cfg(test)]
-mod inputs;
+mod limits;
+#[cfg(test)]
+mod refusals;
 #[cfg(test)]
 mod row;
 #[cfg(test)]

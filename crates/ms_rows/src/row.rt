@@ -6,8 +6,11 @@ use ms_io::{Bytes, CallNos, FileFault, Held, Items, MemFiles, MemSink, Str};
 use std::alloc::Global;
 use std::process::Abort;
 
+/// The word for one printing pass.
+pub const PRINT: &str = "--passes=print<memoryssa>";
+
 /// The bytes that a sink has room for.
-pub const ROOM: usize = 20_000;
+pub const ROOM: usize = 400_000;
 
 /// The most that a sink takes in a call.
 pub const MOST: usize = 10_000;
@@ -64,12 +67,12 @@ pub fn run(alloc: Global, row: &Row) -> Result<Left, FileFault>
     Ok(Left { status, out, err })
 }
 
-/// Runs the program on a file with these bytes. Nothing fails.
-pub fn run_on(alloc: Global, name: &str, bytes: &[u8]) -> Result<Left, FileFault> {
+/// Runs the program with these words on a file with these bytes. Nothing fails.
+pub fn run_on(alloc: Global, words: &[&str], name: &str, bytes: &[u8]) -> Result<Left, FileFault> {
     run(
         alloc,
         &Row {
-            words: &["--passes=print<memoryssa>", name],
+            words,
             name,
             bytes,
             reads_that_fail: &[],

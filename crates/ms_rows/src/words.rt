@@ -1,5 +1,5 @@
-// Words that are not those of the command.
-use crate::row::{MOST, Row, expect, run};
+// Words that are not those of the command, and lists of passes.
+use crate::row::{MOST, PRINT, Row, expect, run};
 use crate::texts::ONE_BLOCK;
 use ms_cli::Status;
 use std::test::Fail;
@@ -7,20 +7,29 @@ use std::test::Fail;
 const USAGE: &[u8] =
     b"mssa: usage: mssa --passes=LIST [--edits=FILE] [--stats] [--disable-output] (FILE or --gen=SEED)\n";
 
-const PASS: &str = "--passes=print<memoryssa>";
+// One pass too many.
+const SEVENTEEN: &str = "--passes=print<memoryssa>,print<memoryssa>,print<memoryssa>,print<memoryssa>,print<memoryssa>,print<memoryssa>,print<memoryssa>,print<memoryssa>,print<memoryssa>,print<memoryssa>,print<memoryssa>,print<memoryssa>,print<memoryssa>,print<memoryssa>,print<memoryssa>,print<memoryssa>,print<memoryssa>";
 
 #[test]
-fn words_that_are_not_of_the_command(rt: HostRuntime) -> Result<(), Fail> {
-    let bad: [&[&str]; 9] = [
+fn refused_words(rt: HostRuntime) -> Result<(), Fail> {
+    let bad: [&[&str]; 17] = [
         &[],
-        &[PASS],
+        &[PRINT],
         &["f.ll"],
-        &[PASS, "f.ll", "f.ll"],
+        &[PRINT, "f.ll", "f.ll"],
         &["--passes=dse", "f.ll"],
-        &["f.ll", PASS],
-        &[PASS, ""],
-        &[PASS, "-x"],
-        &[PASS, "--"],
+        &["--passes=", "f.ll"],
+        &["--passes", "f.ll"],
+        &["--passes=print<memoryssa>,", "f.ll"],
+        &[SEVENTEEN, "f.ll"],
+        &["f.ll", PRINT],
+        &[PRINT, ""],
+        &[PRINT, "-x"],
+        &[PRINT, "--"],
+        &[PRINT, "--disable-output"],
+        &["--disable-output", PRINT, "f.ll"],
+        &[PRINT, "f.ll", "--disable-output"],
+        &[PRINT, "--disable-output", "f.ll", "f.ll"],
     ];
     for words in bad {
         let row = Row {

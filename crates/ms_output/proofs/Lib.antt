@@ -1,0 +1,10 @@
+pub mod Causes
+pub mod FormLemmas
+pub mod Heads
+pub mod OneShape
+pub mod Opened
+pub mod Outputs
+pub mod Rendered
+pub mod Room
+pub mod Shapes
+pub mod Taken

@@ -1,0 +1,4 @@
+pub mod Forms
+pub mod Funcs
+pub mod Output
+pub mod Told
