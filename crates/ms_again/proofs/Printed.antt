@@ -36,7 +36,7 @@ use Rattle.ms_resolve.specs.Scope.{Scope, number_of_name, number_of_word, value_
 use Rattle.ms_resolve.specs.Module.{names_of, scope_of, bodies_in, items_from, module_of}
 use Rattle.ms_print.specs.Numbering.{shown_name, free_after, shown_params}
 use Rattle.ms_print.specs.Lines.{Shown, label_of, word_at, raw_val, raw_arg, raw_entry, raw_inst, raw_term, result_name, inst_line, term_line, label_line, define_line}
-use Rattle.ms_print.specs.Text.{ended, insts_text, first_label, label_text, block_text, blocks_text, func_text, no_notes, body_text, gap, items_text, module_text}
+use Rattle.ms_print.specs.Text.{ended, line_text, insts_text, first_label, label_text, block_text, blocks_text, func_text, no_notes, body_text, gap, items_text, module_text}
 use Rattle.ms_again.specs.Same.{own_name, plain_param}
 use Rattle.ms_again.proofs.Renaming.{Renaming, renamed_val, renamed_arg, renamed_entry, renamed_inst, renamed_term}
 use Rattle.ms_again.proofs.SameText.{params_plain, func_plain}
@@ -196,6 +196,7 @@ term_again s names t r fits (Unreachable rest) h = refl
 insts_rows : (s : Scope) (names : NamesState) (t : Shown) (r : Renaming) → Fits s names t r → (ns : List Name) → ((k : ℕ) → t.locals k ≡ slice_index_or ns k Absent) →
     (next n l : ℕ) (xs : List InstLine) → Each (λ (x : InstLine). IsKnownInst names x.inst) xs → AlongInsts shown ns next l xs →
     insts_text t [] (plain_insts s n l xs) ≡ rows_text (insts_said r next xs)
+unfolding line_text
 insts_rows s names t r fits ns locals next n l [] known along = refl
 insts_rows s names t r fits ns locals next n l (x ∷ xs) known along =
     ap (λ (row : List ℕ). ended row ++ insts_text t [] (plain_insts s (suc n) (local_behind l x) xs)) (inst_row s names t r fits next n l x known.0 (λ e. locals l ∙ along.0 e))
@@ -203,11 +204,13 @@ insts_rows s names t r fits ns locals next n l (x ∷ xs) known along =
 
 -- labels
 first_rows : (labels : List Name) (next : ℕ) (n : Name) → slice_index_or labels 0 Absent ≡ shown_name next n → label_text labels 0 (own_name n) ≡ rows_text (label_said true next n)
+unfolding line_text
 first_rows labels next (Word text) h = ap (λ m. ended (printed (said.Label m))) h ∙ sym (append-nil (ended (printed (said.Label (Word text)))))
 first_rows labels next (Number n) h = refl
 first_rows labels next Absent h = refl
 
 more_rows : (labels : List Name) (next b : ℕ) (n : Name) → slice_index_or labels (suc b) Absent ≡ shown_name next n → label_text labels (suc b) (own_name n) ≡ rows_text (label_said false next n)
+unfolding line_text
 more_rows labels next b n h =
     let some : (suc b == 0) ≡ false = grind (arith, nat_tests) in
     ap (λ (c : Bool). if c then first_label labels (own_name n) else 10 ∷ ended (printed (label_line labels (suc b)))) some
@@ -219,6 +222,7 @@ block_rows : (s : Scope) (names : NamesState) (t : Shown) (r : Renaming) → Fit
     (first : Bool) (next b n l : ℕ) (x : BlockLines) → IsKnownBlock names x → AlongInsts shown ns (free_after next (label_name x.label)) l x.insts →
     label_text t.labels b (own_name (label_name x.label)) ≡ rows_text (label_said first next (label_name x.label)) →
     block_text t no_notes b (record { name = own_name (label_name x.label); insts = plain_insts s n l x.insts; term = term_of s x.end.term }) ≡ rows_text (block_said r first next x)
+unfolding line_text
 block_rows s names t r fits ns locals first next b n l x known along label =
     let labels = label_said first next (label_name x.label) in
     let free = free_after next (label_name x.label) in
@@ -235,6 +239,7 @@ block_rows s names t r fits ns locals first next b n l x known along label =
 later_rows : (s : Scope) (names : NamesState) (t : Shown) (r : Renaming) → Fits s names t r → (ns : List Name) → ((k : ℕ) → t.locals k ≡ slice_index_or ns k Absent) →
     (next b n l : ℕ) (xs : List BlockLines) → Each (IsKnownBlock names) xs → AlongBlocks shown ns t.labels next l (suc b) xs →
     blocks_text t no_notes (suc b) (plain_blocks s n l xs) ≡ rows_text (blocks_said r false next xs)
+unfolding line_text
 later_rows s names t r fits ns locals next b n l [] known along = refl
 later_rows s names t r fits ns locals next b n l (x ∷ xs) known along =
     let rest = plain_blocks s (n + length x.insts) (locals_behind l x.insts) xs in
@@ -247,6 +252,7 @@ later_rows s names t r fits ns locals next b n l (x ∷ xs) known along =
 blocks_rows : (s : Scope) (names : NamesState) (t : Shown) (r : Renaming) → Fits s names t r → (ns : List Name) → ((k : ℕ) → t.locals k ≡ slice_index_or ns k Absent) →
     (next n l : ℕ) (xs : List BlockLines) → Each (IsKnownBlock names) xs → AlongBlocks shown ns t.labels next l 0 xs →
     blocks_text t no_notes 0 (plain_blocks s n l xs) ≡ rows_text (blocks_said r true next xs)
+unfolding line_text
 blocks_rows s names t r fits ns locals next n l [] known along = refl
 blocks_rows s names t r fits ns locals next n l (x ∷ xs) known along =
     let rest = plain_blocks s (n + length x.insts) (locals_behind l x.insts) xs in
@@ -265,6 +271,7 @@ define_same h fixed =
 
 pub func_rows : (effects : List ℕ → Effects) (keeps : List ℕ → Bool) (spare : ℕ) (items : List ItemLines) (f : FuncLines) → IsKnownFunc (names_of items) f →
     func_text (names_of items) (func_of (scope_of effects keeps items f) spare f) no_notes ≡ rows_text (func_said f)
+unfolding line_text
 func_rows effects keeps spare items f known =
     let s = scope_of effects keeps items f in
     let names = names_of items in
@@ -286,6 +293,7 @@ func_rows effects keeps spare items f known =
 
 -- items
 gap_rows : (before : Option Bool) (after : Bool) → gap before after ≡ rows_text (gap_said before after)
+unfolding line_text
 gap_rows None after = refl
 gap_rows (Some true) after = refl
 gap_rows (Some false) true = refl
@@ -303,17 +311,20 @@ length_one (p ∷ pre) x zero e = absurd (omega arith)
 length_one (p ∷ pre) x (suc n) e = ap suc (length_one pre x n (omega arith))
 
 kept_row : (before : Option Bool) (text rest rest' : List ℕ) (line : Line) → ended text ≡ row_text line → rest ≡ rest' → (gap before false ++ ended text) ++ rest ≡ rows_text (gap_said before false) ++ (row_text line ++ rest')
+unfolding line_text
 kept_row before text rest rest' line e f =
     append_assoc (gap before false) (ended text) rest
     ∙ ap (λ (x : List ℕ). x ++ (ended text ++ rest)) (gap_rows before false) ∙ ap (λ (x : List ℕ). rows_text (gap_said before false) ++ (x ++ rest)) e
     ∙ ap (λ (x : List ℕ). rows_text (gap_said before false) ++ (row_text line ++ x)) f
 
 one_part : (text : List ℕ) → ended text ≡ ended (text ++ [])
+unfolding line_text
 one_part text = ap ended (sym (append-nil text))
 
 items_rows : (effects : List ℕ → Effects) (keeps : List ℕ → Bool) (spare : List ℕ → ℕ) (all : List ItemLines) (pre : List (Option FuncState)) (f g : ℕ) (before : Option Bool) (items : List ItemLines) →
     (module_of effects keeps spare all).bodies ≡ pre ++ flat_map (bodies_in (scope_of effects keeps all) spare) items → length pre ≡ f → Each IsItem items → Each (IsKnownItem (names_of all)) items →
     items_text (module_of effects keeps spare all) before (items_from f g items) ≡ rows_text (items_said before items)
+unfolding line_text
 items_rows effects keeps spare all pre f g before [] bodies count each known = refl
 items_rows effects keeps spare all pre f g before (plain n (said.Kept text) ∷ rest) bodies count each known =
     kept_row before text _ (rows_text (items_said (Some false) rest)) (said.Kept text) (one_part text) (items_rows effects keeps spare all pre f g (Some false) rest bodies count each.1 known.1)
@@ -352,4 +363,5 @@ items_rows effects keeps spare all pre f g before (body lines ∷ rest) bodies c
 -- the text of a module is its lines
 pub module_rows : (effects : List ℕ → Effects) (keeps : List ℕ → Bool) (spare : List ℕ → ℕ) (items : List ItemLines) → Each IsItem items → Each (IsKnownItem (names_of items)) items →
     module_text (module_of effects keeps spare items) ≡ rows_text (items_said None items)
+unfolding line_text
 module_rows effects keeps spare items each known = items_rows effects keeps spare items [] 0 0 None items refl refl each known

@@ -17,7 +17,7 @@ use Rattle.ms_print.specs.declared.notes.Note.{Note}
 use Rattle.ms_print.specs.declared.notes.Notes.{Notes}
 use Rattle.ms_print.specs.Numbering.{shown_name, free_after, shown_params, free_after_params, free_after_inst, free_after_insts, free_after_block, shown_labels, is_given, name_among, name_in, param_name, name_of_param, local_name, labels_of}
 use Rattle.ms_print.specs.Lines.{Shown, shown_in, inst_line, term_line, define_line, define_with}
-use Rattle.ms_print.specs.Text.{ended, note_at, insts_text, label_text, block_text, blocks_text, func_text, no_notes, body_text, item_text, has_body, gap, items_text, module_text}
+use Rattle.ms_print.specs.Text.{ended, line_text, note_at, insts_text, label_text, block_text, blocks_text, func_text, no_notes, body_text, item_text, has_body, gap, items_text, module_text}
 use Rattle.ms_again.specs.Same.{own_name, plain_param, plain_inst, plain_block, plain_func, plain_module, IsSameModule}
 
 -- a name is shown by its word alone
@@ -94,31 +94,37 @@ shown_plain names f =
     ap P locals ∙ ap Q (labels_of_plain f)
 
 insts_plain : (s : Shown) (notes : List Note) (xs : List Placed) → insts_text s notes (map plain_inst xs) ≡ insts_text s notes xs
+unfolding line_text
 insts_plain s notes [] = refl
 insts_plain s notes (x ∷ xs) = ap (λ t. note_at notes x.number ++ ended (printed (inst_line s x)) ++ t) (insts_plain s notes xs)
 
 label_plain : (labels : List Name) (b : ℕ) (n : Name) → label_text labels b (own_name n) ≡ label_text labels b n
+unfolding line_text
 label_plain labels b (Word text) = refl
 label_plain labels b (Number n) = refl
 label_plain labels b Absent = refl
 
 block_plain : (s : Shown) (notes : Notes) (b : ℕ) (x : Block) → block_text s notes b (plain_block x) ≡ block_text s notes b x
+unfolding line_text
 block_plain s notes b x =
     ap (λ t. t ++ note_at notes.phis b ++ insts_text s notes.insts (map plain_inst x.insts) ++ ended (printed (term_line s x.term))) (label_plain s.labels b x.name)
     ∙ ap (λ t. label_text s.labels b x.name ++ note_at notes.phis b ++ t ++ ended (printed (term_line s x.term))) (insts_plain s notes.insts x.insts)
 
 blocks_plain : (s : Shown) (notes : Notes) (b : ℕ) (xs : List Block) → blocks_text s notes b (map plain_block xs) ≡ blocks_text s notes b xs
+unfolding line_text
 blocks_plain s notes b [] = refl
 blocks_plain s notes b (x ∷ xs) =
     ap (λ t. t ++ blocks_text s notes (suc b) (map plain_block xs)) (block_plain s notes b x) ∙ ap (λ t. block_text s notes b x ++ t) (blocks_plain s notes (suc b) xs)
 
 pub func_plain : (names : NamesState) (f : FuncState) (notes : Notes) → func_text names (plain_func f) notes ≡ func_text names f notes
+unfolding line_text
 func_plain names f notes =
     ap (λ ps. ended (printed (define_with f ps)) ++ blocks_text (shown_in names (plain_func f)) notes 0 (map plain_block f.blocks) ++ ended (printed Close)) (params_plain 0 f.params)
     ∙ ap (λ s. ended (printed (define_line f)) ++ blocks_text s notes 0 (map plain_block f.blocks) ++ ended (printed Close)) (shown_plain names f)
     ∙ ap (λ t. ended (printed (define_line f)) ++ t ++ ended (printed Close)) (blocks_plain (shown_in names f) notes 0 f.blocks)
 
 body_plain : (names : NamesState) (f : Option FuncState) → body_text names (option_map plain_func f) ≡ body_text names f
+unfolding line_text
 body_plain names None = refl
 body_plain names (Some f) = func_plain names f no_notes
 
@@ -128,19 +134,23 @@ body_there (b ∷ bs) zero = refl
 body_there (b ∷ bs) (suc n) = body_there bs n
 
 item_plain : (m : ModuleState) (x : Item) → item_text (plain_module m) x ≡ item_text m x
+unfolding line_text
 item_plain m (item.Kept text) = refl
 item_plain m (item.Global g text) = refl
 item_plain m (item.Declared f text) = refl
 item_plain m (item.Defined f) = ap (λ b. body_text m.names b) (body_there m.bodies f.0) ∙ body_plain m.names (body_of m f.0)
 
 items_plain : (m : ModuleState) (before : Option Bool) (xs : List Item) → items_text (plain_module m) before xs ≡ items_text m before xs
+unfolding line_text
 items_plain m before [] = refl
 items_plain m before (x ∷ xs) =
     ap (λ t. gap before (has_body x) ++ t ++ items_text (plain_module m) (Some (has_body x)) xs) (item_plain m x)
     ∙ ap (λ t. gap before (has_body x) ++ item_text m x ++ t) (items_plain m (Some (has_body x)) xs)
 
 pub text_plain : (m : ModuleState) → module_text (plain_module m) ≡ module_text m
+unfolding line_text
 text_plain m = items_plain m None m.items
 
 pub same_text : (m n : ModuleState) → IsSameModule m n → module_text m ≡ module_text n
+unfolding line_text
 same_text m n h = sym (text_plain m) ∙ ap module_text h.same ∙ text_plain n
