@@ -16,7 +16,7 @@ use Rattle.ms_line.specs.declared.sort.Sort.TheVariants as sort
 use Rattle.ms_read.specs.declared.place.Place.{Place}
 use Rattle.ms_read.specs.declared.place.Place.TheVariants.{Outside, Begun, Front, Inner, Ended}
 use Rattle.ms_read.specs.declared.place.Progress.{Progress}
-use Rattle.ms_read.specs.Places.{behind, begins_block, AreFew, Lead, outset}
+use Rattle.ms_read.specs.Places.{behind, AreFew, Lead, outset}
 use Rattle.ms_resolve.specs.Shape.{LabelLine, InstLine, BlockLines, FuncLines, ItemLines, plain, body, label_lines, inst_line, block_lines, func_lines, item_lines, HasLabel, HasBlocks, IsItem}
 use Rattle.ms_print.specs.Numbering.{free_after}
 use Rattle.ms_again.proofs.Renaming.{Renaming, renamed_inst, renamed_term}
