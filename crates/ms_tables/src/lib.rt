@@ -18,3 +18,5 @@ mod outside;
 mod sorts;
 #[cfg(test)]
 mod told;
+#[cfg(test)]
+mod validity;
