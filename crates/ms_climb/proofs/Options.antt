@@ -1,0 +1,24 @@
+-- Optional values, and lists of them.
+use Rattle.std.proofs.Common.{◌≡◌, ◌≢◌, ◌<◌, ◌⊎◌, inl, inr, ℕ, zero, suc, Bool, true, List, [], ◌∷◌, length, get_or, set, Option, Some, None, refl, arith}
+use Rattle.std.specs.Prelude.{is_some}
+
+pub cases_Option : {A : Type 0} (o : Option A) → (o ≡ None) ⊎ ((x : A) × (o ≡ Some x))
+cases_Option None = inl refl
+cases_Option (Some x) = inr (x, refl)
+
+pub some_of : {A : Type 0} (o : Option A) → is_some o ≡ true → (x : A) × (o ≡ Some x)
+some_of None t = cc
+some_of (Some x) t = (x, refl)
+
+-- how many members are empty
+abbrev pub free : {A : Type 0} → List (Option A) → ℕ
+free [] = 0
+free (None ∷ xs) = suc (free xs)
+free (Some x ∷ xs) = free xs
+
+pub free_set : {A : Type 0} (xs : List (Option A)) (i : ℕ) (x : A) → i < length xs → get_or xs i None ≡ None → suc (free (set xs i (Some x))) ≡ free xs
+free_set [] i x lt e = absurd (omega arith)
+free_set (None ∷ xs) zero x lt e = refl
+free_set (Some y ∷ xs) zero x lt e = cc
+free_set (None ∷ xs) (suc i) x lt e = let r = free_set xs i x (omega arith) e in omega arith
+free_set (Some y ∷ xs) (suc i) x lt e = free_set xs i x (omega arith) e
