@@ -6,7 +6,9 @@
 #![tactic(auto)]
 
 mod chains;
+mod walk;
 mod writes;
 
 pub use chains::Chains;
+pub use walk::Walk;
 pub use writes::Writes;
