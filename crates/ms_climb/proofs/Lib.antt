@@ -1,2 +1,3 @@
 pub mod Options
 pub mod ChainLemmas
+pub mod WalkLemmas

@@ -109,7 +109,8 @@ impl Walk {
         ensures { OnOk result (IsStep form.now (W.test counted.now) access self.old self.new) }
     {
         let stop = self.chains.climb(form, counted, access)?;
-        self.meet(stop)
+        self.meet(stop)?;
+        Ok(())
     }
 
     // Reaches the operands of a phi.
