@@ -1,3 +1,4 @@
 pub mod Options
 pub mod ChainLemmas
 pub mod WalkLemmas
+pub mod SkipLemmas

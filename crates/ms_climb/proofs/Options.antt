@@ -1,6 +1,7 @@
 -- Optional values, and lists of them.
 use Rattle.std.proofs.Common.{◌≡◌, ◌≢◌, ◌<◌, ◌⊎◌, inl, inr, ℕ, zero, suc, Bool, true, List, [], ◌∷◌, length, get_or, set, Option, Some, None, refl, arith}
 use Rattle.std.specs.Prelude.{is_some}
+use Rattle.ms_climb.specs.Options.{free}
 
 pub cases_Option : {A : Type 0} (o : Option A) → (o ≡ None) ⊎ ((x : A) × (o ≡ Some x))
 cases_Option None = inl refl
@@ -9,12 +10,6 @@ cases_Option (Some x) = inr (x, refl)
 pub some_of : {A : Type 0} (o : Option A) → is_some o ≡ true → (x : A) × (o ≡ Some x)
 some_of None t = cc
 some_of (Some x) t = (x, refl)
-
--- how many members are empty
-abbrev pub free : {A : Type 0} → List (Option A) → ℕ
-free [] = 0
-free (None ∷ xs) = suc (free xs)
-free (Some x ∷ xs) = free xs
 
 pub free_set : {A : Type 0} (xs : List (Option A)) (i : ℕ) (x : A) → i < length xs → get_or xs i None ≡ None → suc (free (set xs i (Some x))) ≡ free xs
 free_set [] i x lt e = absurd (omega arith)

@@ -6,9 +6,11 @@
 #![tactic(auto)]
 
 mod chains;
+mod skips;
 mod walk;
 mod writes;
 
 pub use chains::Chains;
+pub use skips::Skips;
 pub use walk::Walk;
 pub use writes::Writes;

@@ -1,4 +1,4 @@
-use Rattle.ms_climb.proofs.Options.{free}
+use Rattle.ms_climb.specs.Options.{free}
 use Rattle.ms_climb.proofs.ChainLemmas.{IsClimbing}
 use Rattle.ms_climb.proofs.chains.Chains.climb.Given as goal
 
