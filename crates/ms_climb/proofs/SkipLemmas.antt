@@ -1,6 +1,6 @@
 -- How phis are left out.
 use Rattle.std.proofs.Common.{◌≡◌, ◌≢◌, ◌<◌, ◌≤◌, ◌⊎◌, inl, inr, ℕ, zero, suc, ◌+◌, ◌-◌, ◌^◌, Bool, true, false, List, [], ◌∷◌, length, get_or, set, replicate, Option, Some, None, refl, ap, sym, ◌∙◌, subst, arith, ⊎_elim, get_or-set_other, get_or-set_same, if◌then◌else◌}
-use Rattle.std.specs.Prelude.{MatchOption, nat_eq}
+use Rattle.std.specs.Prelude.{MatchBool, nat_eq, is_some}
 use Rattle.std.proofs.Math.ListN.{length-set}
 use Rattle.std.proofs.lemmas.Bool.{cases_eq}
 use Rattle.std.proofs.lemmas.Bool.Decides.{nat_tests}
@@ -273,6 +273,15 @@ pub all_done : (g : List Run) (f : FormState) (w : WalkState) (k : ℕ) (old now
 all_done g f w k old now h all j lt =
     let place : length w.phis - 1 - (length w.phis - 1 - j) ≡ j = omega arith in
     subst (λ (n : ℕ). IsDone g f w now (phi_at w n)) place (h.1 (length w.phis - 1 - j) (omega arith))
+
+pub swept_all : (g : List Run) (f : FormState) (w : WalkState) (k : ℕ) (old now : SkipsState) (changed : Bool) → IsSweptDown g f w k old now changed → length w.phis ≤ k
+    → MatchBool changed (HasFewer old now) (AreDone g f w now (length w.phis))
+swept_all g f w k old now true h all = h
+swept_all g f w k old now false h all = all_done g f w k old now h all
+
+pub none_of : {A : Type 0} (x y : Option A) (t : Bool) → y ≡ x → t ≡ is_some y → t ≡ false → x ≡ None
+none_of None y t same is f = refl
+none_of (Some k) y t same is f = let both : true ≡ false = sym (is ∙ ap is_some same) ∙ f in cc
 
 -- None is left out yet.
 

@@ -1,5 +1,5 @@
 use Rattle.std.proofs.Common.{sym}
-use Rattle.ms_climb.proofs.SkipLemmas.{turns_fall, skipping_none, all_done, skipping_more}
+use Rattle.ms_climb.proofs.SkipLemmas.{turns_fall}
 use Rattle.ms_climb.proofs.skips.Skips.root.Goals as goal
 
 pub rooting-smaller : goal.rooting-smaller
