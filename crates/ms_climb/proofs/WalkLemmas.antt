@@ -57,7 +57,7 @@ unmet_set (false ∷ bs) (suc i) lt e = let r = unmet_set bs i (omega arith) e i
 abbrev pub climbed_to : ChainsState → WalkState → WalkState
 climbed_to ch w = record { chains = ch; met = w.met; phis = w.phis }
 
-sees_start : (ch : ChainsState) (w : WalkState) (a stop : Access) → stop_of ch a ≡ stop → Knows w stop → Knows w a
+pub sees_start : (ch : ChainsState) (w : WalkState) (a stop : Access) → stop_of ch a ≡ stop → Knows w stop → Knows w a
 sees_start ch w Entry stop e k = tt
 sees_start ch w (Of i) stop e k = tt
 sees_start ch w (Phi b) stop e k = subst (Knows w) (sym e) k

@@ -6,6 +6,7 @@
 #![tactic(auto)]
 
 mod chains;
+mod search;
 mod skips;
 mod walk;
 mod writes;
