@@ -23,10 +23,11 @@ use Rattle.ms_form.specs.Form.{FormState, after_last}
 use Rattle.ms_build.specs.Accesses.{event_of, has_phi, enters_at, operand_at, defining_at, entering_at, leaving_at}
 use Rattle.ms_build.specs.Filled.{names_access, HasAccessAt, before_at, last_from}
 use Rattle.ms_build.specs.Built.{IsAnswered, IsFormOf}
+use Rattle.ms_climb.specs.Answer.{IsStartAt}
 use Rattle.ms_climb.specs.Chains.{or_entry, before_of}
 use Rattle.ms_climb.specs.Walk.{brought_of}
 use Rattle.ms_climb.proofs.Options.{cases_Option}
-use Rattle.ms_climb.proofs.Events.{OnePlaced, event_at, access_of, access_of-event, events_at, take-numbers, length-numbers, number_at, numbered_at, in_take, one_inst, def_told, event_after, take_found, after_phi, entered_phi, last_phi, reached_below, length-graph_of}
+use Rattle.ms_climb.proofs.Events.{OnePlaced, event_at, event_of-entry, events_at, take-numbers, length-numbers, number_at, numbered_at, in_take, one_inst, def_told, event_after, take_found, after_phi, entered_phi, last_phi, reached_below, length-graph_of}
 
 -- the laws, as the functions below state them
 abbrev pub LiesLaw : Type 0
@@ -284,3 +285,50 @@ module _ (func : FuncState) (gr : List Run) (f : FormState) (same : gr ≡ edges
           (λ (t : has_phi f b ≡ true). with_phi a e t (tells_below slot (length (sources_of gr b))))
           (λ (o : has_phi f b ≡ false). let both : None ≡ Some a = sym (form.no_operand b slot (inl o)) ∙ e in cc)
           (cases_Bool (has_phi f b))
+
+  -- The accesses with which a search begins.
+
+  before_event : (b k : ℕ) → event_of (or_entry (before_at func.blocks b k (entering_at f b))) ≡ before b k
+  before_event b k =
+      event_of-entry (before_at func.blocks b k (entering_at f b))
+      ∙ event_after D (take k (insts_at func.blocks b)) None (entering_at f b) (λ j x e. def_told func.blocks b j x one (take_found k j (insts_at func.blocks b) x e))
+      ∙ ap (λ (l : List ℕ). after D l (begins b)) (sym (take-numbers k (insts_at func.blocks b)) ∙ ap (take k) (sym (events_at func.blocks b)))
+
+  named_last : (i b k : ℕ) (x : Placed) (a : Access) → IsReached G b → IsAt func.blocks i b k x → defining_at f i ≡ Some a → (names_access (kind_of_inst x.inst) ≡ true) ⊎ (names_access (kind_of_inst x.inst) ≡ false)
+      → IsAnswer G D b k (event_of a)
+  named_last i b k x a r at e (inl t) =
+      let h : IsAnswered func.blocks b k (defining_at f x.number) = form.defining b k x r (record { found = at.found; names = t }) in
+      let some : IsAnswered func.blocks b k (Some a) = subst (IsAnswered func.blocks b k) (ap (defining_at f) at.numbered ∙ e) h in
+      some
+  named_last i b k x a r at e (inr o) =
+      let none : defining_at f i ≡ None = form.no_defining i (λ c j y r' acc same_number.
+          let is : y ≡ x = one_inst func.blocks c j b k y x one acc.found at.found (same_number ∙ sym at.numbered) in
+          both_ways (names_access (kind_of_inst x.inst)) o (subst (λ (z : Placed). names_access (kind_of_inst z.inst) ≡ true) is acc.names)) in
+      let both : None ≡ Some a = sym none ∙ e in cc
+
+  pub start_last : (i b k : ℕ) (x : Placed) (a : Access) → IsReached G b → IsAt func.blocks i b k x → IsStartAt func.blocks f i b k a → IsAnswer G D b k (event_of a)
+  start_last i b k x a r at (inl e) = named_last i b k x a r at e (cases_Bool (names_access (kind_of_inst x.inst)))
+  start_last i b k x a r at (inr e) = subst (IsAnswer G D b k) (sym (ap event_of e ∙ before_event b k)) (is_answer b k r)
+
+  pub entered_some : (b : ℕ) → IsReached G b → is_some (entering_at f b) ≡ true
+  entered_some b r =
+      ⊎_elim (λ (t : has_phi f b ≡ true). rw t refl) (λ (o : has_phi f b ≡ false). rw o (some (enters_at f b) (form.entering b r o))) (cases_Bool (has_phi f b))
+    where
+      some : (x : Option Access) → IsAnswered func.blocks b 0 x → is_some x ≡ true
+      some None h = absurd h
+      some (Some a) h = refl
+
+  pub leaving_some : (b : ℕ) → IsReached G b → is_some (leaving_at f b) ≡ true
+  leaving_some b r = some (get_or f.lasts b None) (entered_some b r)
+    where
+      some : (l : Option InstNo) → is_some (entering_at f b) ≡ true → is_some (after_last l (entering_at f b)) ≡ true
+      some None t = t
+      some (Some i) t = refl
+
+  pub end_last : (b : ℕ) (a : Access) → IsReached G b → Some a ≡ leaving_at f b → IsAnswer G D b (length (insts_at func.blocks b)) (event_of a)
+  end_last b a r e =
+      let k = length (insts_at func.blocks b) in
+      let whole : before_at func.blocks b k (entering_at f b) ≡ leaving_at f b =
+      ap (λ (xs : List Placed). after_last (last_from None xs) (entering_at f b)) (take_all k (insts_at func.blocks b) (omega arith)) ∙ ap (λ (l : Option InstNo). after_last l (entering_at f b)) (sym (form.lasts b)) in
+      let is : event_of a ≡ before b k = ap event_at (e ∙ sym whole) ∙ sym (event_of-entry (before_at func.blocks b k (entering_at f b))) ∙ before_event b k in
+      subst (IsAnswer G D b k) (sym is) (is_answer b k r)

@@ -8,10 +8,9 @@
 mod chains;
 mod search;
 mod skips;
+mod start;
 mod walk;
 mod writes;
 
-pub use chains::Chains;
-pub use skips::Skips;
-pub use walk::Walk;
+pub use search::{last_at_end, last_before};
 pub use writes::Writes;

@@ -1,5 +1,5 @@
 use Rattle.std.proofs.Common.{◌≡◌, ◌∙◌, ℕ, List, ap, sym, subst, length, arith}
-use Rattle.ms_paths.specs.Flow.{Block as Run}
+use Rattle.ms_paths.specs.Flow.{Block as Run, IsReducible}
 use Rattle.ms_climb.specs.Chains.{stop_of}
 use Rattle.ms_climb.specs.Walk.{IsCollected}
 use Rattle.ms_climb.specs.Skips.{SkipsState, IsSkipping}
@@ -23,8 +23,9 @@ returns g c =
     let E = g.W.Writes.test c.args.counted.now in
     let closed = rw (← c.requires.graph) at (c.same_paths.ensures.closed func.blocks c.requires.closed) in
     let size = ap (λ (x : List Run). length x) c.requires.graph ∙ c.same_paths.ensures.blocks func.blocks in
+    let reducible = (c.same_paths.ensures.reducible func.blocks).0 (subst IsReducible c.requires.graph c.requires.reducible) in
     let collected = subst (λ (n : ℕ). IsCollected gr f E n c.args.start c.in_ok-walk.walk) c.made.ensures c.in_ok-walk.ensures in
     found_last func gr f c.requires.graph c.requires.form c.numbered.ensures.one_place c.numbered.ensures.below_made c.requires.closed
     (c.same_paths.ensures.edges func.blocks) (c.same_paths.ensures.reached func.blocks) (c.order_told.ensures.reached gr closed) (c.sources_told.ensures.edges gr closed) (c.sources_told.ensures.all gr closed)
-    c.answer_lies_on_every.ensures E c.args.start c.in_ok-walk.walk c.settle.new.self size collected c.settle.ensures c.walk_answers.ensures c.requires.defs c.requires.reducible c.root.result
+    c.answer_lies_on_every.ensures E c.args.start c.in_ok-walk.walk c.settle.new.self size collected c.settle.ensures c.walk_answers.ensures c.requires.defs reducible c.root.result
     (λ go l. ap go (sym c.stop.ensures) ∙ c.root.ensures.leads go l)
