@@ -98,201 +98,92 @@ in_tells insts blocks Entry = inl tt
 in_tells insts blocks (Of i) = tells_below i.0 insts
 in_tells insts blocks (Phi b) = tells_below b.0 blocks
 
-module _ (func : FuncState) (gr : List Run) (f : FormState) (same : gr ≡ edges_of func.blocks) (form : IsFormOf func f) (one : OnePlaced func.blocks)
-    (made : (b j : ℕ) (x : Placed) → slice_get (insts_at func.blocks b) j ≡ Some x → x.number < func.made) (closed : IsClosed (graph_of func.blocks))
-    (edges : (a b : ℕ) → HasEdge (edges_of func.blocks) a b ↔ HasEdge (graph_of func.blocks) a b)
-    (reach : (b : ℕ) → IsReached (edges_of func.blocks) b ↔ IsReached (graph_of func.blocks) b)
-    (order : (b : ℕ) → (is_some (order_of gr b) ≡ true → IsReached gr b) × (IsReached gr b → is_some (order_of gr b) ≡ true))
-    (told : EdgesTold gr) (all : EdgesAll gr) (lies : LiesLaw) where
-  abbrev pub G : List Run
+-- what enters a block, what is before a place of it, what leaves it, what comes into its phi, and what an instruction names, as events
+abbrev pub begins : FormState → ℕ → Event
+begins f b = event_at (entering_at f b)
+
+abbrev pub before : FuncState → FormState → ℕ → ℕ → Event
+before func f b k = after (defs_of func.blocks) (take k (block_at (graph_of func.blocks) b).events) (begins f b)
+
+abbrev pub leaves : FuncState → FormState → ℕ → Event
+leaves func f b = after (defs_of func.blocks) (block_at (graph_of func.blocks) b).events (begins f b)
+
+abbrev pub brings : FuncState → FormState → ℕ → ℕ → Event
+brings func f b a = leaves func f a
+
+abbrev pub names : FormState → ℕ → Event
+names f i = event_at (defining_at f i)
+
+-- whether a block is reached
+abbrev pub in_order : List Run → ℕ → Bool
+in_order gr b = is_some (order_of gr b)
+
+pub entered_begins : (f : FormState) (b : ℕ) → entered (has_phi f) b (begins f b) ≡ begins f b
+entered_begins f b = ⊎_elim (λ (t : has_phi f b ≡ true). rw t refl) (λ (o : has_phi f b ≡ false). rw o refl) (cases_Bool (has_phi f b))
+
+not_entered : (f : FormState) (b : ℕ) (e : Event) → has_phi f b ≡ false → entered (has_phi f) b e ≡ e
+not_entered f b e o = rw o refl
+
+module _ (func : FuncState) (f : FormState) (form : IsFormOf func f) (one : OnePlaced func.blocks) where
+  abbrev G : List Run
   G = graph_of func.blocks
 
-  abbrev pub D : ℕ → Bool
+  abbrev D : ℕ → Bool
   D = defs_of func.blocks
 
-  abbrev pub Z : ℕ → Bool
-  Z b = is_some (order_of gr b)
-
-  abbrev pub phis : ℕ → Bool
-  phis b = has_phi f b
-
-  to_gr : (b : ℕ) → IsReached G b → IsReached gr b
-  to_gr b r = subst (λ (g : List Run). IsReached g b) (sym same) ((reach b).1 r)
-
-  from_gr : (b : ℕ) → IsReached gr b → IsReached G b
-  from_gr b r = (reach b).0 (subst (λ (g : List Run). IsReached g b) same r)
-
-  pub in_z : (b : ℕ) → IsTrue (Z b) ↔ IsReached G b
-  in_z b = (λ z. from_gr b ((order b).0 z), λ r. (order b).1 (to_gr b r))
-
-  -- the slots of a block are the edges to it from reached blocks
-  pub slot_of : (a b : ℕ) → IsReached G a → HasEdge G a b → IsSlot gr a b
-  slot_of a b r e = slot_of_edge gr all a b (to_gr a r) (subst (λ (g : List Run). HasEdge g a b) (sym same) ((edges a b).1 e))
-
-  pub edge_of : (b slot : ℕ) (e : Source) → slice_get (sources_of gr b) slot ≡ Some e → IsReached G e.from × HasEdge G e.from b
-  edge_of b slot e found =
-      let t = source_edge gr told b slot e found in
-      (from_gr e.from t.0, (edges e.from b).0 (subst (λ (g : List Run). HasEdge g e.from b) same t.1))
-
-  -- what enters a block, what leaves it, and what an instruction names, as events
-  abbrev pub begins : ℕ → Event
-  begins b = event_at (entering_at f b)
-
-  abbrev pub before : ℕ → ℕ → Event
-  before b k = after D (take k (block_at G b).events) (begins b)
-
-  abbrev pub leaves : ℕ → Event
-  leaves b = after D (block_at G b).events (begins b)
-
-  abbrev pub brings : ℕ → ℕ → Event
-  brings b a = leaves a
-
-  abbrev pub names : ℕ → Event
-  names i = event_at (defining_at f i)
-
-  pub entered_begins : (b : ℕ) → entered phis b (begins b) ≡ begins b
-  entered_begins b = ⊎_elim (λ (t : has_phi f b ≡ true). rw t refl) (λ (o : has_phi f b ≡ false). rw o refl) (cases_Bool (has_phi f b))
-
-  not_entered : (b : ℕ) (e : Event) → has_phi f b ≡ false → entered phis b e ≡ e
-  not_entered b e o = rw o refl
-
-  -- Answers are the last events on paths.
+  abbrev phis : ℕ → Bool
+  phis = has_phi f
 
   said : (b k : ℕ) (e : Event) → IsAnswer G D b k e → (p : List ℕ) → IsPath G b p → last_event_at G D phis b k p ≡ e
   said b k e h p path =
       let alike : h.phis ≡ phis = fun_ext (λ c. true_alike (h.phis c) (has_phi f c) (λ t. (form.phis c).1 ((h.phis_are c).0 t)) (λ t. (h.phis_are c).1 ((form.phis c).0 t))) in
       subst (λ (S : ℕ → Bool). last_event_at G D S b k p ≡ e) alike (h.is_last p path)
 
-  started : (b : ℕ) (p : List ℕ) → IsPath G b p → entered phis b (last_event G D phis p) ≡ begins b
+  started : (b : ℕ) (p : List ℕ) → IsPath G b p → entered phis b (last_event G D phis p) ≡ begins f b
   started b p path =
       ⊎_elim
       (λ (t : has_phi f b ≡ true). rw t refl)
       (λ (o : has_phi f b ≡ false). by_entry (enters_at f b) refl o (form.entering b (p, path) o))
       (cases_Bool (has_phi f b))
     where
-      by_entry : (x : Option Access) → enters_at f b ≡ x → has_phi f b ≡ false → IsAnswered func.blocks b 0 (enters_at f b) → entered phis b (last_event G D phis p) ≡ begins b
+      by_entry : (x : Option Access) → enters_at f b ≡ x → has_phi f b ≡ false → IsAnswered func.blocks b 0 (enters_at f b) → entered phis b (last_event G D phis p) ≡ begins f b
       by_entry None is o h = let none : IsAnswered func.blocks b 0 None = rw is at h in absurd none
       by_entry (Some a) is o h =
           let some : IsAnswered func.blocks b 0 (Some a) = rw is at h in
-          said b 0 (event_of a) some p path ∙ (let e : begins b ≡ event_of a = rw (o, is) refl in sym e)
+          said b 0 (event_of a) some p path ∙ (let e : begins f b ≡ event_of a = rw (o, is) refl in sym e)
 
-  pub answer_is : (b k : ℕ) (e : Event) → IsReached G b → IsAnswer G D b k e → e ≡ before b k
+  pub answer_is : (b k : ℕ) (e : Event) → IsReached G b → IsAnswer G D b k e → e ≡ before func f b k
   answer_is b k e r h = sym (said b k e h r.0 r.1) ∙ ap (after D (take k (block_at G b).events)) (started b r.0 r.1)
 
-  answered_is : (b k : ℕ) (x : Option Access) → IsReached G b → IsAnswered func.blocks b k x → event_at x ≡ before b k
+  answered_is : (b k : ℕ) (x : Option Access) → IsReached G b → IsAnswered func.blocks b k x → event_at x ≡ before func f b k
   answered_is b k None r h = absurd h
   answered_is b k (Some a) r h = answer_is b k (event_of a) r h
 
   -- the other way around
-  pub is_answer : (b k : ℕ) → IsReached G b → IsAnswer G D b k (before b k)
+  pub is_answer : (b k : ℕ) → IsReached G b → IsAnswer G D b k (before func f b k)
   is_answer b k r = record { phis = phis; phis_are = form.phis; is_last = λ p path. ap (after D (take k (block_at G b).events)) (started b p path) }
-
-  pub is_form : IsForm G D Z phis begins brings leaves
-  is_form = record {
-    leaves_block = λ b z. ap (after D (block_at G b).events) (sym (entered_begins b));
-    leaves_outside = λ a r z runs. absurd (both_ways (Z a) z ((in_z a).1 r));
-    enters_entry = λ z o. sym (started 0 [] refl) ∙ not_entered 0 LastEntry o;
-    enters_block = λ a b z o r e.
-        sym (started b (a ∷ r.0) (e, r.1)) ∙ not_entered b (after D (block_at G a).events (entered phis a (last_event G D phis r.0))) o ∙ ap (after D (block_at G a).events) (started a r.0 r.1);
-    operands = λ a b z t r e. refl;
-  }
 
   access_at : (b k : ℕ) (x : Placed) → slice_get (insts_at func.blocks b) k ≡ Some x → D x.number ≡ true → HasAccessAt func.blocks b k x
   access_at b k x at t = record { found = at; names = names_def (kind_of_inst x.inst) (sym (def_told func.blocks b k x one at) ∙ t) }
 
-  pub is_defining : IsDefining G D phis begins names
+  pub is_defining : IsDefining G D phis (begins f) (names f)
   is_defining i b k r at t =
       let found : slice_get (numbers (insts_at func.blocks b)) k ≡ Some i = subst (λ (l : List ℕ). slice_get l k ≡ Some i) (events_at func.blocks b) at in
       let x = number_at (insts_at func.blocks b) k i found in
       let def : D x.0.number ≡ true = ap D x.2 ∙ t in
       let h : IsAnswered func.blocks b k (defining_at f i) = subst (λ (n : ℕ). IsAnswered func.blocks b k (defining_at f n)) x.2 (form.defining b k x.0 r (access_at b k x.0 x.1 def)) in
-      answered_is b k (defining_at f i) r h ∙ ap (after D (take k (block_at G b).events)) (sym (entered_begins b))
+      answered_is b k (defining_at f i) r h ∙ ap (after D (take k (block_at G b).events)) (sym (entered_begins f b))
 
-  whole_block : (b : ℕ) → before b (length (insts_at func.blocks b)) ≡ leaves b
+  whole_block : (b : ℕ) → before func f b (length (insts_at func.blocks b)) ≡ leaves func f b
   whole_block b =
-      ap (λ (l : List ℕ). after D l (begins b))
+      ap (λ (l : List ℕ). after D l (begins f b))
       (take_all (length (insts_at func.blocks b)) (block_at G b).events (let size : length (block_at G b).events ≡ length (insts_at func.blocks b) = ap (λ (l : List ℕ). length l) (events_at func.blocks b) ∙ length-numbers (insts_at func.blocks b) in omega arith))
 
-  sources_same : (b slot : ℕ) (e : Source) → slice_get (sources_of gr b) slot ≡ Some e → slice_get (sources_of (edges_of func.blocks) b) slot ≡ Some e
-  sources_same b slot e found = subst (λ (g : List Run). slice_get (sources_of g b) slot ≡ Some e) same found
-
-  -- what comes over the edge at a slot leaves the block that it comes from
-  pub operand_is : (b slot : ℕ) (e : Source) → has_phi f b ≡ true → slice_get (sources_of gr b) slot ≡ Some e → event_at (operand_at f b slot) ≡ leaves e.from
-  operand_is b slot e t found =
-      answered_is e.from (length (insts_at func.blocks e.from)) (operand_at f b slot) (edge_of b slot e found).0 (form.operands b slot e t (sources_same b slot e found)) ∙ whole_block e.from
-
-  -- All accesses are the function's own.
-
-  reached_need : (c : ℕ) → NeedsPhi G D c → IsReached G c
-  reached_need c n = (in_z c).0 (n Z (record { one_event = λ x p q hp hq o. absurd (both_ways (Z x) o ((in_z x).1 (p, hp))) }))
-
-  met_made : (b i : ℕ) → Contains (block_at G b).events i → i < func.made
-  met_made b i h =
-      let x = numbered_at (insts_at func.blocks b) i (subst (λ (l : List ℕ). Contains l i) (events_at func.blocks b) h) in
-      let lt = made b x.0 x.1 x.2 in
-      let n = x.3 in
-      omega arith
-
-  pub answer_in : (b k : ℕ) (a : Access) → IsReached G b → IsAnswer G D b k (event_of a) → IsIn func.made (length func.blocks) a
-  answer_in b k Entry r h = tt
-  answer_in b k (Of i) r h =
-      ⊎_elim
-      (λ (m : Contains (take k (block_at G b).events) i.0). met_made b i.0 (in_take k (block_at G b).events i.0 m))
-      (λ (m : (a : ℕ) × Contains r.0 a × Contains (block_at G a).events i.0). met_made m.0 i.0 m.2)
-      (lies G D b k i.0 h r.0 r.1)
-  answer_in b k (Phi c) r h =
-      let t : has_phi f c.0 ≡ true =
-      entered_phi phis b (last_event G D phis r.0) c.0 (last_phi G D phis r.0 c.0) (after_phi D (take k (block_at G b).events) (entered phis b (last_event G D phis r.0)) c.0 (said b k (LastPhi c.0) h r.0 r.1)) in
-      let reached = reached_need c.0 ((form.phis c.0).0 t) in
-      let below = reached_below G closed c.0 reached.0 reached.1 in
-      let size = length-graph_of func.blocks in
-      omega arith
-
-  answered_in : (b k : ℕ) (a : Access) (x : Option Access) → x ≡ Some a → IsReached G b → IsAnswered func.blocks b k x → IsIn func.made (length func.blocks) a
-  answered_in b k a None e r h = absurd h
-  answered_in b k a (Some c) e r h = let same_access : c ≡ a = cc in subst (IsIn func.made (length func.blocks)) same_access (answer_in b k c r h)
-
-  pub before_in : (i : ℕ) → IsIn func.made (length func.blocks) (before_of f i)
-  before_in i = by_entry (defining_at f i) refl
-    where
-      by_entry : (x : Option Access) → defining_at f i ≡ x → IsIn func.made (length func.blocks) (or_entry x)
-      by_entry None e = tt
-      by_entry (Some a) e =
-          ⊎_elim
-          (λ (h : IsIn func.made (length func.blocks) a). h)
-          (λ (n : IsIn func.made (length func.blocks) a → ⊥).
-          let none : defining_at f i ≡ None =
-          form.no_defining i (λ b k x r acc is. n (answered_in b k a (defining_at f x.number) (ap (defining_at f) is ∙ e) r (form.defining b k x r acc))) in
-          let both : None ≡ Some a = sym none ∙ e in cc)
-          (in_tells func.made (length func.blocks) a)
-
-  pub brought_in : (b slot : ℕ) → IsIn func.made (length func.blocks) (brought_of f b slot)
-  brought_in b slot = by_entry (operand_at f b slot) refl
-    where
-      with_phi : (a : Access) → operand_at f b slot ≡ Some a → has_phi f b ≡ true → (slot < length (sources_of gr b)) ⊎ (slot < length (sources_of gr b) → ⊥) → IsIn func.made (length func.blocks) a
-      with_phi a e t (inl lt) =
-          let s = member_at (sources_of gr b) slot lt in
-          answered_in s.0.from (length (insts_at func.blocks s.0.from)) a (operand_at f b slot) e (edge_of b slot s.0 s.1).0 (form.operands b slot s.0 t (sources_same b slot s.0 s.1))
-      with_phi a e t (inr n) =
-          let past : length (sources_of gr b) ≤ slot = omega (arith, n) in
-          let none : operand_at f b slot ≡ None = form.no_operand b slot (inr (subst (λ (g : List Run). length (sources_of g b) ≤ slot) same past)) in
-          let both : None ≡ Some a = sym none ∙ e in cc
-
-      by_entry : (x : Option Access) → operand_at f b slot ≡ x → IsIn func.made (length func.blocks) (or_entry x)
-      by_entry None e = tt
-      by_entry (Some a) e =
-          ⊎_elim
-          (λ (t : has_phi f b ≡ true). with_phi a e t (tells_below slot (length (sources_of gr b))))
-          (λ (o : has_phi f b ≡ false). let both : None ≡ Some a = sym (form.no_operand b slot (inl o)) ∙ e in cc)
-          (cases_Bool (has_phi f b))
-
-  -- The accesses with which a search begins.
-
-  before_event : (b k : ℕ) → event_of (or_entry (before_at func.blocks b k (entering_at f b))) ≡ before b k
+  before_event : (b k : ℕ) → event_of (or_entry (before_at func.blocks b k (entering_at f b))) ≡ before func f b k
   before_event b k =
       event_of-entry (before_at func.blocks b k (entering_at f b))
       ∙ event_after D (take k (insts_at func.blocks b)) None (entering_at f b) (λ j x e. def_told func.blocks b j x one (take_found k j (insts_at func.blocks b) x e))
-      ∙ ap (λ (l : List ℕ). after D l (begins b)) (sym (take-numbers k (insts_at func.blocks b)) ∙ ap (take k) (sym (events_at func.blocks b)))
+      ∙ ap (λ (l : List ℕ). after D l (begins f b)) (sym (take-numbers k (insts_at func.blocks b)) ∙ ap (take k) (sym (events_at func.blocks b)))
 
   named_last : (i b k : ℕ) (x : Placed) (a : Access) → IsReached G b → IsAt func.blocks i b k x → defining_at f i ≡ Some a → (names_access (kind_of_inst x.inst) ≡ true) ⊎ (names_access (kind_of_inst x.inst) ≡ false)
       → IsAnswer G D b k (event_of a)
@@ -330,5 +221,111 @@ module _ (func : FuncState) (gr : List Run) (f : FormState) (same : gr ≡ edges
       let k = length (insts_at func.blocks b) in
       let whole : before_at func.blocks b k (entering_at f b) ≡ leaving_at f b =
       ap (λ (xs : List Placed). after_last (last_from None xs) (entering_at f b)) (take_all k (insts_at func.blocks b) (omega arith)) ∙ ap (λ (l : Option InstNo). after_last l (entering_at f b)) (sym (form.lasts b)) in
-      let is : event_of a ≡ before b k = ap event_at (e ∙ sym whole) ∙ sym (event_of-entry (before_at func.blocks b k (entering_at f b))) ∙ before_event b k in
+      let is : event_of a ≡ before func f b k = ap event_at (e ∙ sym whole) ∙ sym (event_of-entry (before_at func.blocks b k (entering_at f b))) ∙ before_event b k in
       subst (IsAnswer G D b k) (sym is) (is_answer b k r)
+
+module _ (func : FuncState) (gr : List Run) (f : FormState) (same : gr ≡ edges_of func.blocks) (form : IsFormOf func f) (one : OnePlaced func.blocks)
+    (made : (b j : ℕ) (x : Placed) → slice_get (insts_at func.blocks b) j ≡ Some x → x.number < func.made) (closed : IsClosed (graph_of func.blocks))
+    (edges : (a b : ℕ) → HasEdge (edges_of func.blocks) a b ↔ HasEdge (graph_of func.blocks) a b)
+    (reach : (b : ℕ) → IsReached (edges_of func.blocks) b ↔ IsReached (graph_of func.blocks) b)
+    (order : (b : ℕ) → (is_some (order_of gr b) ≡ true → IsReached gr b) × (IsReached gr b → is_some (order_of gr b) ≡ true))
+    (told : EdgesTold gr) (all : EdgesAll gr) (lies : LiesLaw) where
+
+  to_gr : (b : ℕ) → IsReached (graph_of func.blocks) b → IsReached gr b
+  to_gr b r = subst (λ (g : List Run). IsReached g b) (sym same) ((reach b).1 r)
+
+  from_gr : (b : ℕ) → IsReached gr b → IsReached (graph_of func.blocks) b
+  from_gr b r = (reach b).0 (subst (λ (g : List Run). IsReached g b) same r)
+
+  pub in_z : (b : ℕ) → IsTrue (in_order gr b) ↔ IsReached (graph_of func.blocks) b
+  in_z b = (λ z. from_gr b ((order b).0 z), λ r. (order b).1 (to_gr b r))
+
+  -- the slots of a block are the edges to it from reached blocks
+  pub slot_of : (a b : ℕ) → IsReached (graph_of func.blocks) a → HasEdge (graph_of func.blocks) a b → IsSlot gr a b
+  slot_of a b r e = slot_of_edge gr all a b (to_gr a r) (subst (λ (g : List Run). HasEdge g a b) (sym same) ((edges a b).1 e))
+
+  pub edge_of : (b slot : ℕ) (e : Source) → slice_get (sources_of gr b) slot ≡ Some e → IsReached (graph_of func.blocks) e.from × HasEdge (graph_of func.blocks) e.from b
+  edge_of b slot e found =
+      let t = source_edge gr told b slot e found in
+      (from_gr e.from t.0, (edges e.from b).0 (subst (λ (g : List Run). HasEdge g e.from b) same t.1))
+
+  pub is_form : IsForm (graph_of func.blocks) (defs_of func.blocks) (in_order gr) (has_phi f) (begins f) (brings func f) (leaves func f)
+  is_form = record {
+    leaves_block = λ b z. ap (after (defs_of func.blocks) (block_at (graph_of func.blocks) b).events) (sym (entered_begins f b));
+    leaves_outside = λ a r z runs. absurd (both_ways (in_order gr a) z ((in_z a).1 r));
+    enters_entry = λ z o. sym (started func f form one 0 [] refl) ∙ not_entered f 0 LastEntry o;
+    enters_block = λ a b z o r e.
+        sym (started func f form one b (a ∷ r.0) (e, r.1)) ∙ not_entered f b (after (defs_of func.blocks) (block_at (graph_of func.blocks) a).events (entered (has_phi f) a (last_event (graph_of func.blocks) (defs_of func.blocks) (has_phi f) r.0))) o ∙ ap (after (defs_of func.blocks) (block_at (graph_of func.blocks) a).events) (started func f form one a r.0 r.1);
+    operands = λ a b z t r e. refl;
+  }
+
+  sources_same : (b slot : ℕ) (e : Source) → slice_get (sources_of gr b) slot ≡ Some e → slice_get (sources_of (edges_of func.blocks) b) slot ≡ Some e
+  sources_same b slot e found = subst (λ (g : List Run). slice_get (sources_of g b) slot ≡ Some e) same found
+
+  -- what comes over the edge at a slot leaves func f the block that it comes from
+  pub operand_is : (b slot : ℕ) (e : Source) → has_phi f b ≡ true → slice_get (sources_of gr b) slot ≡ Some e → event_at (operand_at f b slot) ≡ leaves func f e.from
+  operand_is b slot e t found =
+      answered_is func f form one e.from (length (insts_at func.blocks e.from)) (operand_at f b slot) (edge_of b slot e found).0 (form.operands b slot e t (sources_same b slot e found)) ∙ whole_block func f form one e.from
+
+  reached_need : (c : ℕ) → NeedsPhi (graph_of func.blocks) (defs_of func.blocks) c → IsReached (graph_of func.blocks) c
+  reached_need c n = (in_z c).0 (n (in_order gr) (record { one_event = λ x p q hp hq o. absurd (both_ways (in_order gr x) o ((in_z x).1 (p, hp))) }))
+
+  met_made : (b i : ℕ) → Contains (block_at (graph_of func.blocks) b).events i → i < func.made
+  met_made b i h =
+      let x = numbered_at (insts_at func.blocks b) i (subst (λ (l : List ℕ). Contains l i) (events_at func.blocks b) h) in
+      let lt = made b x.0 x.1 x.2 in
+      let n = x.3 in
+      omega arith
+
+  pub answer_in : (b k : ℕ) (a : Access) → IsReached (graph_of func.blocks) b → IsAnswer (graph_of func.blocks) (defs_of func.blocks) b k (event_of a) → IsIn func.made (length func.blocks) a
+  answer_in b k Entry r h = tt
+  answer_in b k (Of i) r h =
+      ⊎_elim
+      (λ (m : Contains (take k (block_at (graph_of func.blocks) b).events) i.0). met_made b i.0 (in_take k (block_at (graph_of func.blocks) b).events i.0 m))
+      (λ (m : (a : ℕ) × Contains r.0 a × Contains (block_at (graph_of func.blocks) a).events i.0). met_made m.0 i.0 m.2)
+      (lies (graph_of func.blocks) (defs_of func.blocks) b k i.0 h r.0 r.1)
+  answer_in b k (Phi c) r h =
+      let t : has_phi f c.0 ≡ true =
+      entered_phi (has_phi f) b (last_event (graph_of func.blocks) (defs_of func.blocks) (has_phi f) r.0) c.0 (last_phi (graph_of func.blocks) (defs_of func.blocks) (has_phi f) r.0 c.0) (after_phi (defs_of func.blocks) (take k (block_at (graph_of func.blocks) b).events) (entered (has_phi f) b (last_event (graph_of func.blocks) (defs_of func.blocks) (has_phi f) r.0)) c.0 (said func f form one b k (LastPhi c.0) h r.0 r.1)) in
+      let reached = reached_need c.0 ((form.phis c.0).0 t) in
+      let below = reached_below (graph_of func.blocks) closed c.0 reached.0 reached.1 in
+      let size = length-graph_of func.blocks in
+      omega arith
+
+  answered_in : (b k : ℕ) (a : Access) (x : Option Access) → x ≡ Some a → IsReached (graph_of func.blocks) b → IsAnswered func.blocks b k x → IsIn func.made (length func.blocks) a
+  answered_in b k a None e r h = absurd h
+  answered_in b k a (Some c) e r h = let same_access : c ≡ a = cc in subst (IsIn func.made (length func.blocks)) same_access (answer_in b k c r h)
+
+  pub before_in : (i : ℕ) → IsIn func.made (length func.blocks) (before_of f i)
+  before_in i = by_entry (defining_at f i) refl
+    where
+      by_entry : (x : Option Access) → defining_at f i ≡ x → IsIn func.made (length func.blocks) (or_entry x)
+      by_entry None e = tt
+      by_entry (Some a) e =
+          ⊎_elim
+          (λ (h : IsIn func.made (length func.blocks) a). h)
+          (λ (n : IsIn func.made (length func.blocks) a → ⊥).
+          let none : defining_at f i ≡ None =
+          form.no_defining i (λ b k x r acc is. n (answered_in b k a (defining_at f x.number) (ap (defining_at f) is ∙ e) r (form.defining b k x r acc))) in
+          let both : None ≡ Some a = sym none ∙ e in cc)
+          (in_tells func.made (length func.blocks) a)
+
+  pub brought_in : (b slot : ℕ) → IsIn func.made (length func.blocks) (brought_of f b slot)
+  brought_in b slot = by_entry (operand_at f b slot) refl
+    where
+      with_phi : (a : Access) → operand_at f b slot ≡ Some a → has_phi f b ≡ true → (slot < length (sources_of gr b)) ⊎ (slot < length (sources_of gr b) → ⊥) → IsIn func.made (length func.blocks) a
+      with_phi a e t (inl lt) =
+          let s = member_at (sources_of gr b) slot lt in
+          answered_in s.0.from (length (insts_at func.blocks s.0.from)) a (operand_at f b slot) e (edge_of b slot s.0 s.1).0 (form.operands b slot s.0 t (sources_same b slot s.0 s.1))
+      with_phi a e t (inr n) =
+          let past : length (sources_of gr b) ≤ slot = omega (arith, n) in
+          let none : operand_at f b slot ≡ None = form.no_operand b slot (inr (subst (λ (g : List Run). length (sources_of g b) ≤ slot) same past)) in
+          let both : None ≡ Some a = sym none ∙ e in cc
+
+      by_entry : (x : Option Access) → operand_at f b slot ≡ x → IsIn func.made (length func.blocks) (or_entry x)
+      by_entry None e = tt
+      by_entry (Some a) e =
+          ⊎_elim
+          (λ (t : has_phi f b ≡ true). with_phi a e t (tells_below slot (length (sources_of gr b))))
+          (λ (o : has_phi f b ≡ false). let both : None ≡ Some a = sym (form.no_operand b slot (inl o)) ∙ e in cc)
+          (cases_Bool (has_phi f b))

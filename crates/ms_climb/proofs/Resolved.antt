@@ -25,7 +25,7 @@ use Rattle.ms_climb.specs.Skips.{SkipsState, skip_of, IsLeading, way_of, IsTrivi
 use Rattle.ms_climb.proofs.Options.{cases_Option}
 use Rattle.ms_climb.proofs.WalkLemmas.{sees_start}
 use Rattle.ms_climb.proofs.Events.{OnePlaced, event_at, access_of, access_of-event, access_of-entry, event_of-access, event_of-entry, stands_once, length-graph_of}
-use Rattle.ms_climb.proofs.Answered.{LiesLaw, EdgesTold, EdgesAll, IsSlot, IsIn, slice_get_below, member_at, G, D, Z, phis, begins, before, leaves, brings, names, in_z, slot_of, edge_of, answer_is, is_form, is_defining, entered_begins, operand_is, answer_in, before_in, brought_in}
+use Rattle.ms_climb.proofs.Answered.{LiesLaw, EdgesTold, EdgesAll, IsSlot, IsIn, slice_get_below, member_at, in_order, begins, before, leaves, brings, names, in_z, slot_of, edge_of, answer_is, is_form, is_defining, entered_begins, operand_is, answer_in, before_in, brought_in}
 
 abbrev pub WalkLaw : Type 0
 WalkLaw = (g : List Run) (D E R phis : ℕ → Bool) (enters : ℕ → Event) (operand : ℕ → ℕ → Event) (leaves defining : ℕ → Event)
@@ -119,10 +119,10 @@ module _ (func : FuncState) (gr : List Run) (f : FormState) (same : gr ≡ edges
       by_mark (Some Counts) e h = absurd (both_ways (E i) o (c.walked.climbed.counts i e))
       by_mark (Some (Passed n)) e h = record { chain = n; at = e; passed = c.walked.climbed.passed i n e }
 
-  names_access : (i : ℕ) → access_of (names func gr f same form one made closed edges reach order told all lies i) ≡ before_of f i
+  names_access : (i : ℕ) → access_of (names f i) ≡ before_of f i
   names_access i = access_of-entry (defining_at f i)
 
-  sees_next : (i : ℕ) → seen (LastOf i) ≡ true → E i ≡ false → seen (names func gr f same form one made closed edges reach order told all lies i) ≡ true
+  sees_next : (i : ℕ) → seen (LastOf i) ≡ true → E i ≡ false → seen (names f i) ≡ true
   unfolding seen
   sees_next i t o =
       let p = was_passed i t o in
@@ -131,7 +131,7 @@ module _ (func : FuncState) (gr : List Run) (f : FormState) (same : gr ≡ edges
       seen_of w func.made (length func.blocks) (before_of f i) c.insts_are blocks_are (before_in func gr f same form one made closed edges reach order told all lies i) (p.passed.met, knows) in
       ap (is_seen w) (names_access i) ∙ h
 
-  passes_next : (i : ℕ) → seen (LastOf i) ≡ true → E i ≡ false → to (LastOf i) ≡ to (names func gr f same form one made closed edges reach order told all lies i)
+  passes_next : (i : ℕ) → seen (LastOf i) ≡ true → E i ≡ false → to (LastOf i) ≡ to (names f i)
   unfolding to
   passes_next i t o =
       let p = was_passed i t o in
@@ -140,10 +140,10 @@ module _ (func : FuncState) (gr : List Run) (f : FormState) (same : gr ≡ edges
 
   -- Phis.
 
-  brings_access : (a b : ℕ) (slot : IsSlot gr a b) → has_phi f b ≡ true → access_of (brings func gr f same form one made closed edges reach order told all lies b a) ≡ brought_of f b slot.slot
+  brings_access : (a b : ℕ) (slot : IsSlot gr a b) → has_phi f b ≡ true → access_of (brings func f b a) ≡ brought_of f b slot.slot
   brings_access a b slot t =
       ap access_of (sym (operand_is func gr f same form one made closed edges reach order told all lies b slot.slot slot.source t slot.found
-      ∙ ap (leaves func gr f same form one made closed edges reach order told all lies) slot.from))
+      ∙ ap (leaves func f) slot.from))
       ∙ access_of-entry (operand_at f b slot.slot)
 
   opened : (b slot : ℕ) → has_met w b ≡ true → slot < length (sources_of gr b) → Sees w (brought_of f b slot)
@@ -153,7 +153,7 @@ module _ (func : FuncState) (gr : List Run) (f : FormState) (same : gr ≡ edges
       subst (λ (n : ℕ). Sees w (brought_of f n slot)) l.at (c.opened l.place slot l.below lt')
 
   opens : (a b : ℕ) → seen (LastPhi b) ≡ true → has_phi f b ≡ true → IsReached (graph_of func.blocks) a → HasEdge (graph_of func.blocks) a b
-      → seen (brings func gr f same form one made closed edges reach order told all lies b a) ≡ true
+      → seen (brings func f b a) ≡ true
   unfolding seen
   opens a b t p r e =
       let slot = slot_of func gr f same form one made closed edges reach order told all lies a b r e in
@@ -170,12 +170,12 @@ module _ (func : FuncState) (gr : List Run) (f : FormState) (same : gr ≡ edges
   unfolding leads
   brought b o = let k = left_some b o in settled.skipping.brought (record { 0 = b }) k.0 k.1
 
-  to_brings : (a b : ℕ) (slot : IsSlot gr a b) → has_phi f b ≡ true → to (brings func gr f same form one made closed edges reach order told all lies b a) ≡ event_of (way_of f w leads (record { 0 = b }) slot.slot)
+  to_brings : (a b : ℕ) (slot : IsSlot gr a b) → has_phi f b ≡ true → to (brings func f b a) ≡ event_of (way_of f w leads (record { 0 = b }) slot.slot)
   unfolding to
   to_brings a b slot t = ap (λ (x : Access). event_of (leads (stop_of w.chains x))) (brings_access a b slot t)
 
   skips : (a b : ℕ) → has_phi f b ≡ true → kept b ≡ false → IsReached (graph_of func.blocks) a → HasEdge (graph_of func.blocks) a b
-      → to (LastPhi b) ≡ to (brings func gr f same form one made closed edges reach order told all lies b a)
+      → to (LastPhi b) ≡ to (brings func f b a)
   unfolding to
   skips a b t o r e =
       let slot = slot_of func gr f same form one made closed edges reach order told all lies a b r e in
@@ -187,7 +187,7 @@ module _ (func : FuncState) (gr : List Run) (f : FormState) (same : gr ≡ edges
   skips_entry o = ap event_of ((brought 0 o).entry refl)
 
   none_trivial : (b : ℕ) → seen (LastPhi b) ≡ true → has_phi f b ≡ true → kept b ≡ true
-      → IsTrivialPhi (graph_of func.blocks) (λ x a. to (brings func gr f same form one made closed edges reach order told all lies x a)) b → ⊥
+      → IsTrivialPhi (graph_of func.blocks) (λ x a. to (brings func f x a)) b → ⊥
   unfolding seen
   none_trivial b t p k triv =
       let l = c.walked.listed b t in
@@ -200,15 +200,15 @@ module _ (func : FuncState) (gr : List Run) (f : FormState) (same : gr ≡ edges
           let m = member_at (sources_of gr b) slot lt in
           let e = edge_of func gr f same form one made closed edges reach order told all lies b slot m.0 m.1 in
           let at : IsSlot gr m.0.from b = record { slot = slot; source = m.0; found = m.1; from = refl } in
-          let is : access_of (to (brings func gr f same form one made closed edges reach order told all lies b m.0.from)) ≡ way_of f w leads (record { 0 = b }) slot =
+          let is : access_of (to (brings func f b m.0.from)) ≡ way_of f w leads (record { 0 = b }) slot =
           ap access_of (to_brings m.0.from b at p) ∙ access_of-event (way_of f w leads (record { 0 = b }) slot) in
           ⊎_elim
-          (λ (x : to (brings func gr f same form one made closed edges reach order told all lies b m.0.from) ≡ triv.0). inl (sym is ∙ ap access_of x))
-          (λ (x : to (brings func gr f same form one made closed edges reach order told all lies b m.0.from) ≡ LastPhi b). inr (sym is ∙ ap access_of x))
+          (λ (x : to (brings func f b m.0.from) ≡ triv.0). inl (sym is ∙ ap access_of x))
+          (λ (x : to (brings func f b m.0.from) ≡ LastPhi b). inr (sym is ∙ ap access_of x))
           (triv.1.1 m.0.from e.0 e.1)
 
-  resolved : IsResolved (graph_of func.blocks) (defs_of func.blocks) E (phis func gr f same form one made closed edges reach order told all lies)
-      (brings func gr f same form one made closed edges reach order told all lies) (names func gr f same form one made closed edges reach order told all lies) seen kept to
+  resolved : IsResolved (graph_of func.blocks) (defs_of func.blocks) E (has_phi f)
+      (brings func f) (names f) seen kept to
   resolved = record {
     from_entry = from_entry;
     stops = to_counted;
@@ -227,18 +227,18 @@ module _ (func : FuncState) (gr : List Run) (f : FormState) (same : gr ≡ edges
   unfolding to seen leads
   found_last law defs red root leads_to b k r last =
       let e : Event = after (defs_of func.blocks) (take k (block_at (graph_of func.blocks) b).events)
-          (entered (phis func gr f same form one made closed edges reach order told all lies) b (begins func gr f same form one made closed edges reach order told all lies b)) in
+          (entered (has_phi f) b (begins f b)) in
       let here : e ≡ event_of start =
-      ap (after (defs_of func.blocks) (take k (block_at (graph_of func.blocks) b).events)) (entered_begins func gr f same form one made closed edges reach order told all lies b)
-      ∙ sym (answer_is func gr f same form one made closed edges reach order told all lies b k (event_of start) r last) in
+      ap (after (defs_of func.blocks) (take k (block_at (graph_of func.blocks) b).events)) (entered_begins f b)
+      ∙ sym (answer_is func f form one b k (event_of start) r last) in
       let sees : is_seen w (access_of e) ≡ true =
       ap (λ (x : Event). is_seen w (access_of x)) here ∙ ap (is_seen w) (access_of-event start)
       ∙ seen_of w func.made (length func.blocks) start c.insts_are blocks_are (answer_in func gr f same form one made closed edges reach order told all lies b k start r last) c.sees in
       let answer : IsAnswer (graph_of func.blocks) E b k (to e) =
-      law (graph_of func.blocks) (defs_of func.blocks) E (Z func gr f same form one made closed edges reach order told all lies) (phis func gr f same form one made closed edges reach order told all lies)
-      (begins func gr f same form one made closed edges reach order told all lies) (brings func gr f same form one made closed edges reach order told all lies) (leaves func gr f same form one made closed edges reach order told all lies)
-      (names func gr f same form one made closed edges reach order told all lies) seen kept to (in_z func gr f same form one made closed edges reach order told all lies)
-      (is_form func gr f same form one made closed edges reach order told all lies) (is_defining func gr f same form one made closed edges reach order told all lies) resolved defs
+      law (graph_of func.blocks) (defs_of func.blocks) E (in_order gr) (has_phi f)
+      (begins f) (brings func f) (leaves func f)
+      (names f) seen kept to (in_z func gr f same form one made closed edges reach order told all lies)
+      (is_form func gr f same form one made closed edges reach order told all lies) (is_defining func f form one) resolved defs
       (stands_once func.blocks one) closed red b k r sees in
       subst (IsAnswer (graph_of func.blocks) E b k)
       (ap to here ∙ ap (λ (x : Access). event_of (leads (stop_of w.chains x))) (access_of-event start) ∙ ap event_of (leads_to leads leading)) answer
