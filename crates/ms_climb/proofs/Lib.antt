@@ -6,3 +6,4 @@ pub mod Insts
 pub mod Events
 pub mod Answered
 pub mod Resolved
+pub mod Shapes

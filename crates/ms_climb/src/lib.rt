@@ -9,6 +9,8 @@ mod chains;
 mod search;
 mod skips;
 mod start;
+#[cfg(test)]
+mod tests;
 mod walk;
 mod writes;
 
