@@ -1,9 +1,9 @@
 -- The instructions of a function as events on paths.
-use Rattle.std.proofs.Common.{Bool, true, false, ◌≡◌, ◌<◌, ◌≤◌, ◌&&◌, ◌||◌, inl, inr, ℕ, zero, suc, List, [], ◌∷◌, length, take, get_or, Option, Some, None, refl, ap, sym, ◌∙◌, subst, arith, ⊎_elim, if◌then◌else◌}
+use Rattle.std.proofs.Common.{Bool, true, false, ◌≡◌, ◌<◌, ℕ, zero, suc, List, [], ◌∷◌, length, take, Option, Some, None, refl, ap, sym, ◌∙◌, subst, arith, ⊎_elim, if◌then◌else◌}
 use Rattle.std.specs.Prelude.{slice_get, Contains, nat_eq}
-use Rattle.std.proofs.lemmas.Bool.{cases_Bool, both_ways}
+use Rattle.std.proofs.lemmas.Bool.{cases_Bool}
 use Rattle.std.proofs.lemmas.Bool.Decides.{nat_tests}
-use Rattle.ms_paths.specs.Flow.{Block as Run, block_at, Event, Of as LastOf, Phi as LastPhi, Entry as LastEntry, after, entered, last_event, StandsOnce, HasEdge, IsPath, IsReached, IsClosed}
+use Rattle.ms_paths.specs.Flow.{Block as Run, block_at, Event, Of as LastOf, Phi as LastPhi, Entry as LastEntry, after, entered, last_event, StandsOnce, IsPath, IsClosed}
 use Rattle.ms_ir.specs.declared.names.InstNo.{InstNo}
 use Rattle.ms_ir.specs.Inst.{kind_of_inst}
 use Rattle.ms_ir.specs.Graph.{numbers, graph_of, is_def, has_def, defs_of}

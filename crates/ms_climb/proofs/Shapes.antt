@@ -1,5 +1,5 @@
 -- The graphs of functions that tests build.
-use Rattle.std.proofs.Common.{◌≡◌, ℕ, zero, suc, List, [], ◌∷◌, length, set, get_or, refl, ap, subst, arith, length-set}
+use Rattle.std.proofs.Common.{◌≡◌, ℕ, zero, suc, List, [], ◌∷◌, set, get_or, refl, subst, arith, length-set}
 use Rattle.std.specs.Prelude.{Contains}
 use Rattle.ms_paths.specs.Flow.{block_at, IsClosed}
 use Rattle.ms_ir.specs.Func.{Placed, Block, no_block, with_insts}

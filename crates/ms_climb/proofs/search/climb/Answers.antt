@@ -1,8 +1,7 @@
-use Rattle.std.proofs.Common.{◌≡◌, ◌∙◌, ℕ, List, ap, sym, subst, length, arith}
+use Rattle.std.proofs.Common.{◌∙◌, ℕ, List, ap, sym, subst, length, arith}
 use Rattle.ms_paths.specs.Flow.{Block as Run, IsReducible}
-use Rattle.ms_climb.specs.Chains.{stop_of}
 use Rattle.ms_climb.specs.Walk.{IsCollected}
-use Rattle.ms_climb.specs.Skips.{SkipsState, IsSkipping}
+use Rattle.ms_climb.specs.Skips.{IsSkipping}
 use Rattle.ms_climb.proofs.SkipLemmas.{skipping_none}
 use Rattle.ms_climb.proofs.Resolved.{found_last}
 use Rattle.ms_climb.proofs.search.climb.Goals as goal
