@@ -6,6 +6,7 @@
 #![tactic(auto)]
 
 mod chains;
+mod near;
 mod search;
 mod skips;
 mod start;
