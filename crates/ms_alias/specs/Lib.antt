@@ -1,0 +1,5 @@
+pub mod Bases
+pub mod Captured
+pub mod Meeting
+pub mod Reaches
+pub mod Roots
