@@ -1,0 +1,5 @@
+pub mod Makers
+pub mod Marks
+pub mod Meets
+pub mod Reaching
+pub mod RootLemmas

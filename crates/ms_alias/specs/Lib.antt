@@ -3,3 +3,4 @@ pub mod Captured
 pub mod Meeting
 pub mod Reaches
 pub mod Roots
+pub mod Tables

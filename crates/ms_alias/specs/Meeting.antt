@@ -39,7 +39,7 @@ ShareByte _ _ = ⊥
 -- a byte location has a byte at least
 abbrev pub HasLength : Reach → Type 0
 HasLength (Span r from len) = 0 < len
-HasLength (Called vals other hidden) = Unit {0}
+HasLength (Called args other hidden) = Unit {0}
 
 -- a base of one and a base of the other may be one object
 abbrev pub ShareBase : FuncState → Reach → Reach → Type 0

@@ -1,5 +1,5 @@
 -- What an instruction reads and what it writes: bytes at a root, or all that some bases lead to.
-use Rattle.std.specs.Prelude.{◌≡◌, ◌⊎◌, ◌||◌, ℕ, ℤ, Bool, true, if◌then◌else◌, List, [], map, Some, Contains}
+use Rattle.std.specs.Prelude.{◌≡◌, ◌⊎◌, ◌||◌, ℕ, ℤ, Bool, true, if◌then◌else◌, List, [], Some, Contains}
 use Rattle.ms_ir.specs.declared.names.Ty.{Ty}
 use Rattle.ms_ir.specs.declared.names.Ty.TheVariants.{I1, I8, I16, I32, I64, Ptr}
 use Rattle.ms_ir.specs.declared.names.InstNo.{InstNo}
@@ -15,11 +15,11 @@ use Rattle.ms_alias.specs.Roots.{HasRoot, pointer_of}
 use Rattle.ms_alias.specs.Bases.{Base, Alloca, Argument, Object, Outside, Hidden, HasBase, HasValBase, IsArgument}
 use Rattle.ms_alias.specs.Captured.{IsCaptured}
 
--- so many bytes from an offset of a root on; or what a call reaches: all that these values lead to, and where the first flag
+-- so many bytes from an offset of a root on; or what a call reaches: all that these arguments lead to, and where the first flag
 -- is set the memory that it may know besides, where the second is set memory that no pointer reaches
 pub data Reach : Type 0 where
   Span : (root : Root) (from : ℤ) (len : ℕ) → Reach
-  Called : (vals : List Val) (other hidden : Bool) → Reach
+  Called : (args : List Arg) (other hidden : Bool) → Reach
 
 -- the bytes of a value in memory; a pointer is in no memory here
 abbrev pub size_of : Ty → ℕ
@@ -34,21 +34,18 @@ size_of Ptr = 0
 abbrev pub IsSpan : FuncState → Val → ℕ → Reach → Type 0
 IsSpan f v len u = (p : Root) × (pointer_of v ≡ Some p) × (r : Root) × (from : ℤ) × HasRoot f p r from × (u ≡ Span r from len)
 
-abbrev pub arg_vals : List Arg → List Val
-arg_vals args = map (λ (a : Arg). a.val) args
-
 -- the instruction reads this
 abbrev pub IsRead : FuncState → Inst → Reach → Type 0
 IsRead f (Load ty ptr tail) u = IsSpan f ptr (size_of ty) u
 IsRead f (Copy to from len head tail) u = IsSpan f from.val len u
-IsRead f (Call callee ret args effects head tail) u = u ≡ Called (if effects.arg_read then arg_vals args else []) effects.other_read effects.hidden_read
+IsRead f (Call callee ret args effects head tail) u = u ≡ Called (if effects.arg_read then args else []) effects.other_read effects.hidden_read
 IsRead f _ u = ⊥
 
 -- the instruction writes this
 abbrev pub IsWritten : FuncState → Inst → Reach → Type 0
 IsWritten f (Store ty val ptr tail) u = IsSpan f ptr (size_of ty) u
 IsWritten f (Copy to from len head tail) u = IsSpan f to.val len u
-IsWritten f (Call callee ret args effects head tail) u = u ≡ Called (if effects.arg_write then arg_vals args else []) effects.other_write effects.hidden_write
+IsWritten f (Call callee ret args effects head tail) u = u ≡ Called (if effects.arg_write then args else []) effects.other_write effects.hidden_write
 IsWritten f _ u = ⊥
 
 -- a location is its bytes, or what the instruction reads
@@ -67,7 +64,7 @@ IsKnown f Hidden = ⊥
 -- the bases that are reached
 abbrev pub IsReached : FuncState → Reach → Base → Type 0
 IsReached f (Span root from len) b = HasBase f root b
-IsReached f (Called vals other hidden) b = ((v : Val) × Contains vals v × HasValBase f v b) ⊎ ((other ≡ true) × IsKnown f b) ⊎ ((hidden ≡ true) × (b ≡ Hidden))
+IsReached f (Called args other hidden) b = ((a : Arg) × Contains args a × HasValBase f a.val b) ⊎ ((other ≡ true) × IsKnown f b) ⊎ ((hidden ≡ true) × (b ≡ Hidden))
 
 -- the location that the instruction of number i reads
 abbrev pub IsLocRead : FuncState → InstNo → Inst → Loc → Type 0

@@ -118,3 +118,12 @@ IsTurning f (Global g) = ⊥
 -- every other root is fixed: arguments, globals, allocas, and what is made on no cycle
 abbrev pub IsFixed : FuncState → Root → Type 0
 IsFixed f r = IsTurning f r → ⊥
+
+-- a pair as a step
+abbrev pub pair_step : Root × ℤ → Step
+pair_step p = record { base = p.0; bytes = p.1 }
+
+-- the block of an instruction that is no alloca
+abbrev pub moving_block : Option Maker → Option ℕ
+moving_block None = None
+moving_block (Some m) = if is_alloca m.inst then None else Some m.block

@@ -1,6 +1,13 @@
 //! What pointers may point to, and which instructions may touch which memory.
 #![tactic(auto)]
 
+mod alias;
+mod laws;
 mod loc;
+mod maker;
+mod origins;
+mod sets;
+mod touch;
 
+pub use alias::Alias;
 pub use loc::{Loc, Root};
