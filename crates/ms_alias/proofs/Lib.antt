@@ -3,3 +3,4 @@ pub mod Marks
 pub mod Meets
 pub mod Reaching
 pub mod RootLemmas
+pub mod Queries

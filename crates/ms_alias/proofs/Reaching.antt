@@ -346,13 +346,13 @@ ranges_to from at len size h =
     (and_from (nat_lt 0 len && nat_lt 0 size) (int_lt from (at +ℤ pos size)) (and_from (nat_lt 0 len) (nat_lt 0 size) (lt-ltb 0 len l) (lt-ltb 0 size s)) (test_from_lt from (at +ℤ pos size) p))
     (test_from_lt at (from +ℤ pos len) q)
 
-root_is : (r s : Root) → same_root r s ≡ true → r ≡ s
+pub root_is : (r s : Root) → same_root r s ≡ true → r ≡ s
 root_is (Local k) (Local l) e = ap Local (is_number k l (eqb-true k.0 l.0 e))
 root_is (Global g) (Global h) e = let make : ℕ → Root = λ n. Global (record { 0 = n }) in ap make (eqb-true g.0 h.0 e)
 root_is (Local k) (Global h) e = absurd (false≢true e)
 root_is (Global g) (Local l) e = absurd (false≢true e)
 
-root_same : (r : Root) → same_root r r ≡ true
+pub root_same : (r : Root) → same_root r r ≡ true
 root_same (Local l) = eq-eqb l.0 l.0 refl
 root_same (Global g) = eq-eqb g.0 g.0 refl
 

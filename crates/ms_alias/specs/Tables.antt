@@ -1,7 +1,8 @@
 -- The tables of a function's pointers, and what is to be read from them.
-use Rattle.std.specs.Prelude.{◌≡◌, ◌<◌, ◌≤◌, ◌==◌, ◌&&◌, ◌||◌, ◌⊎◌, ◌↔◌, ◌+ℤ◌, ℕ, ℤ, pos, int_lt, nat_lt, not, Bool, true, false, if◌then◌else◌, List, [], ◌∷◌, length, map, position, Option, Some, None, slice_get, slice_index_or, Contains}
+use Rattle.std.specs.Prelude.{◌≡◌, ◌<◌, ◌≤◌, ◌==◌, ◌&&◌, ◌||◌, ◌⊎◌, ◌↔◌, ◌+ℤ◌, ℕ, ℤ, pos, int_lt, int_le, nat_lt, not, Bool, true, false, if◌then◌else◌, List, [], ◌∷◌, length, map, position, Option, Some, None, slice_get, slice_index_or, Contains}
 use Rattle.ms_ir.specs.declared.names.LocalNo.{LocalNo}
 use Rattle.ms_ir.specs.declared.names.GlobalNo.{GlobalNo}
+use Rattle.ms_ir.specs.declared.names.InstNo.{InstNo}
 use Rattle.std.specs.List.{list_any}
 use Rattle.ms_ir.specs.declared.names.Ty.{Ty}
 use Rattle.ms_ir.specs.declared.inst.Val.{Val}
@@ -95,10 +96,33 @@ abbrev pub reach_in : Option Touch → Option Reach
 reach_in None = None
 reach_in (Some t) = Some (reach_of t)
 
+abbrev pub bytes_at : ℕ → Option Origin → Option Loc
+bytes_at len None = None
+bytes_at len (Some o) = Some (Bytes o.root o.offset len)
+
+-- the location that an instruction reads, and the bytes that it writes
+abbrev pub read_loc : List Origin → InstNo → Inst → Option Loc
+read_loc origins i (Load ty ptr tail) = bytes_at (size_of ty) (val_origin origins ptr)
+read_loc origins i (Copy to from len head tail) = bytes_at len (val_origin origins from.val)
+read_loc origins i (Call callee ret args effects head tail) = if effects.arg_read || effects.other_read || effects.hidden_read then Some (ReadBy i) else None
+read_loc origins i _ = None
+
+abbrev pub written_loc : List Origin → Inst → Option Loc
+written_loc origins (Store ty val ptr tail) = bytes_at (size_of ty) (val_origin origins ptr)
+written_loc origins (Copy to from len head tail) = bytes_at len (val_origin origins to.val)
+written_loc origins _ = None
+
+-- what the instruction of a number reads or writes by the tables
+abbrev pub IsReadBy : FuncState → List Origin → ℕ → Reach → Type 0
+IsReadBy f origins i u = (b : ℕ) × (place : ℕ) × (x : Placed) × IsAt f.blocks i b place x × (read_reach origins x.inst ≡ Some u)
+
+abbrev pub IsWrittenBy : FuncState → List Origin → ℕ → Reach → Type 0
+IsWrittenBy f origins i u = (b : ℕ) × (place : ℕ) × (x : Placed) × IsAt f.blocks i b place x × (write_reach origins x.inst ≡ Some u)
+
 -- what a location is by the tables
 abbrev pub IsReachBy : FuncState → List Origin → Loc → Reach → Type 0
 IsReachBy f origins (Bytes root from len) u = u ≡ Span root from len
-IsReachBy f origins (ReadBy j) u = (b : ℕ) × (place : ℕ) × (x : Placed) × IsAt f.blocks j.0 b place x × (read_reach origins x.inst ≡ Some u)
+IsReachBy f origins (ReadBy j) u = IsReadBy f origins j.0 u
 
 abbrev pub is_turning : List Bool → Root → Bool
 is_turning turning (Local l) = slice_index_or turning l.0 false
@@ -208,6 +232,25 @@ reaches_meet a (Span r from len) (Called args other hidden) = nat_lt 0 len && ca
 reaches_meet a (Called args other hidden) (Span r from len) = nat_lt 0 len && call_meets a.bases a.captured args other (set_of a.bases r)
 reaches_meet a (Called args other hidden) (Called args_2 other_2 hidden_2) = calls_meet a.bases a.captured args other hidden args_2 other_2 hidden_2
 
+abbrev pub meet_in : AliasState → Option Reach → Option Reach → Bool
+meet_in a None v = false
+meet_in a (Some u) None = false
+meet_in a (Some u) (Some v) = reaches_meet a u v
+
+-- byte k is one of so many from an offset on
+abbrev pub holds_byte : ℤ → ℕ → ℤ → Bool
+holds_byte from len k = int_le from k && int_lt k (from +ℤ pos len)
+
+-- bytes of the fixed root r, byte k among them
+abbrev pub must_hold : AliasState → Option Reach → Root → ℤ → Bool
+must_hold a (Some (Span r from len)) root k = same_root r root && not (is_turning a.turning root) && holds_byte from len k
+must_hold a _ root k = false
+
+-- the alloca is captured
+abbrev pub caught_at : List Bool → Set → Bool
+caught_at captured (Alloca c) = slice_index_or captured c false
+caught_at captured _ = false
+
 -- the base that is a pointer's own
 abbrev pub base_of : Root → Base
 base_of (Local l) = AllocaBase l
@@ -251,12 +294,6 @@ pub record IsCaptures (t : BasesState) (f : FuncState) (captured : List Bool) : 
   pub sound : (c : ℕ) → slice_index_or captured c false ≡ true → (l : LocalNo) × (slice_get t.columns c ≡ Some (Local l)) × IsCaptured f l
   pub complete : (l : LocalNo) → IsCaptured f l → (c : ℕ) × IsColumn t (Local l) c × (slice_index_or captured c false ≡ true)
 
-pub record IsAliasOf (f : FuncState) (a : AliasState) : Type 0 where
-  pub origins : IsOrigins f a.origins
-  pub turning : IsTurnings f a.turning
-  pub bases : IsBases a.bases f
-  pub captured : IsCaptures a.bases f a.captured
-
 -- the kind of a local that a set stands for
 abbrev pub IsFor : BasesState → FuncState → LocalNo → Set → Type 0
 IsFor t f l Nothing = (maker_of f l ≡ None) × (IsArgument f l → ⊥)
@@ -270,3 +307,11 @@ pub record HasRoom (t : BasesState) (f : FuncState) : Type 0 where
   pub rows : length t.rows ≡ length t.sets
   pub sets : (l : LocalNo) → IsFor t f l (set_of t (Local l))
   pub globals : (p : Root) (g : GlobalNo) → Contains (leads_of f p) (Global g) → (c : ℕ) × (global_column t g ≡ Some c)
+
+-- These are the tables of the function.
+pub record IsAliasOf (f : FuncState) (a : AliasState) : Type 0 where
+  pub room : HasRoom a.bases f
+  pub origins : IsOrigins f a.origins
+  pub turning : IsTurnings f a.turning
+  pub bases : IsBases a.bases f
+  pub captured : IsCaptures a.bases f a.captured

@@ -1,6 +1,6 @@
 // What the instructions of a function may read and write.
 ghost use Rattle.std.specs.Prelude.{◌≡◌, ◌<◌, ◌≤◌, ◌+ℤ◌, ◌↔◌, ℕ, ℤ, pos, int_lt, IsTrue, length, MatchOption, IfSome, Some, None, if◌then◌else◌, [], slice_index_or, false};
-ghost use Rattle.ms_alias.specs.Tables.{ranges_meet};
+ghost use Rattle.ms_alias.specs.Tables.{ranges_meet, holds_byte};
 
 use crate::loc::{Loc, Root};
 use crate::maker::{pointer_of, size_of};
@@ -57,8 +57,20 @@ fn ranges_meet(from: i64, len: u32, at: i64, size: u32) -> bool
     len > 0 && size > 0 && is_before(from, at, size) && is_before(at, from, len)
 }
 
+// Whether a byte is one of so many from an offset on.
+fn holds_byte(from: i64, len: u32, byte: i64) -> bool
+    ensures { result ≡ holds_byte from len byte }
+{
+    from <= byte && is_before(byte, from, len)
+}
+
 impl Alias {
-    ghost use Rattle.ms_alias.specs.Tables.{AliasState, IsAliasOf, origin_of, val_origin, is_turning, val_set, sets_meet, is_known, args_meet, call_meets, call_meets_args, are_known, calls_meet, spans_meet, reaches_meet, reach_of, reach_in, read_reach, write_reach, IsReachBy, span_at, set_of};
+    ghost use Rattle.ms_ir.specs.Func.{FuncState};
+    ghost use Rattle.ms_alias.specs.Roots.{IsFixed};
+    ghost use Rattle.ms_alias.specs.Captured.{IsCaptured};
+    ghost use Rattle.ms_alias.specs.Reaches.{Reach, ReadsLoc, WritesLoc};
+    ghost use Rattle.ms_alias.specs.Meeting.{MayWrite, MayRead, MustWrite, IsOuter};
+    ghost use Rattle.ms_alias.specs.Tables.{AliasState, IsAliasOf, origin_of, val_origin, is_turning, val_set, sets_meet, is_known, args_meet, call_meets, call_meets_args, are_known, calls_meet, spans_meet, reaches_meet, reach_of, reach_in, read_reach, write_reach, IsReachBy, IsReadBy, IsWrittenBy, span_at, meet_in, must_hold, bytes_at, read_loc, written_loc, caught_at, set_of, has_outer};
 
     // The root and offset of a pointer.
     fn origin_of(&self, p: Root) -> Origin
@@ -98,6 +110,20 @@ impl Alias {
             }
             Root::Global(_) => false,
         }
+    }
+
+    // The bases of a pointer.
+    fn set_of(&self, p: Root) -> Set
+        ensures { result ≡ set_of self.now.bases p }
+    {
+        self.bases.set_of(p)
+    }
+
+    // Whether a base that is no alloca is in a set.
+    fn has_outer(&self, set: Set) -> bool
+        ensures { result ≡ has_outer self.now.bases set }
+    {
+        self.bases.has_outer(set)
     }
 
     // The bases of a value.
@@ -248,5 +274,188 @@ impl Alias {
             }),
             _ => None,
         }
+    }
+
+    // What the instruction of a number reads.
+    fn read_at<'a>(&'a self, func: &'a Func, i: InstNo) -> Option<Touch<'a>>
+        ensures { (u : Reach) → (reach_in result ≡ Some u) ↔ IsReadBy func.now self.now.origins i.0 u }
+    {
+        match func.inst(i) {
+            Some(inst) => self.read_touch(inst),
+            None => None,
+        }
+    }
+
+    // What the instruction of a number writes.
+    fn write_at<'a>(&'a self, func: &'a Func, i: InstNo) -> Option<Touch<'a>>
+        ensures { (u : Reach) → (reach_in result ≡ Some u) ↔ IsWrittenBy func.now self.now.origins i.0 u }
+    {
+        match func.inst(i) {
+            Some(inst) => self.write_touch(inst),
+            None => None,
+        }
+    }
+
+    // What a location is.
+    fn loc_touch<'a>(&'a self, func: &'a Func, loc: &Loc) -> Option<Touch<'a>>
+        ensures { (u : Reach) → (reach_in result ≡ Some u) ↔ IsReachBy func.now self.now.origins loc.now u }
+    {
+        match *loc {
+            Loc::Bytes { root, from, len } => Some(Touch::Span { root, from, len }),
+            Loc::ReadBy(j) => self.read_at(func, j),
+        }
+    }
+
+    // Whether two things that instructions touch are there and meet.
+    fn meet_in(&self, a: &Option<Touch>, b: &Option<Touch>) -> bool
+        ensures { result ≡ meet_in self.now (reach_in a.now) (reach_in b.now) }
+    {
+        match (a, b) {
+            (Some(a), Some(b)) => self.meet(a, b),
+            _ => false,
+        }
+    }
+
+    /// Whether what an instruction writes meets a location.
+    pub fn may_write(&self, func: &Func, i: InstNo, loc: &Loc) -> bool
+        requires { IsAliasOf func.now self.now }
+        ensures { IsTrue result ↔ MayWrite func.now i.0 loc.now }
+    {
+        self.meet_in(&self.write_at(func, i), &self.loc_touch(func, loc))
+    }
+
+    /// Whether what an instruction reads meets a location.
+    pub fn may_read(&self, func: &Func, i: InstNo, loc: &Loc) -> bool
+        requires { IsAliasOf func.now self.now }
+        ensures { IsTrue result ↔ MayRead func.now i.0 loc.now }
+    {
+        self.meet_in(&self.read_at(func, i), &self.loc_touch(func, loc))
+    }
+
+    // Whether these are bytes of a fixed root, this byte among them.
+    fn must_hold(&self, a: &Option<Touch>, root: Root, byte: i64) -> bool
+        ensures { result ≡ must_hold self.now (reach_in a.now) root byte }
+    {
+        match a {
+            Some(Touch::Span { root: r, from, len }) => {
+                same_root(*r, root) && !self.is_turning(root) && holds_byte(*from, *len, byte)
+            }
+            _ => false,
+        }
+    }
+
+    /// Whether an instruction is a store or memcpy through a root that is fixed, and writes a byte of it, which is counted from
+    /// the root.
+    pub fn must_write(&self, func: &Func, i: InstNo, root: Root, byte: i64) -> bool
+        requires { IsAliasOf func.now self.now }
+        ensures { IsTrue result ↔ MustWrite func.now i.0 root byte }
+    {
+        self.must_hold(&self.write_at(func, i), root, byte)
+    }
+
+    // So many bytes from where a value points to.
+    fn bytes(&self, val: Val, len: u32) -> Option<Loc>
+        ensures { result ≡ bytes_at len (val_origin self.now.origins val) }
+    {
+        match self.val_origin(val) {
+            Some(Origin { root, offset }) => Some(Loc::Bytes {
+                root,
+                from: offset,
+                len,
+            }),
+            None => None,
+        }
+    }
+
+    // The location that an instruction reads.
+    fn read_loc(&self, i: InstNo, inst: &Inst) -> Option<Loc>
+        ensures { result ≡ read_loc self.now.origins i inst.now }
+    {
+        match inst {
+            Inst::Load { ty, ptr, .. } => self.bytes(*ptr, size_of(*ty)),
+            Inst::Copy { from, len, .. } => self.bytes(from.val, *len),
+            Inst::Call { effects, .. } => {
+                if effects.arg_read || effects.other_read || effects.hidden_read {
+                    Some(Loc::ReadBy(i))
+                } else {
+                    None
+                }
+            }
+            _ => None,
+        }
+    }
+
+    // The bytes that an instruction writes.
+    fn written_loc(&self, inst: &Inst) -> Option<Loc>
+        ensures { result ≡ written_loc self.now.origins inst.now }
+    {
+        match inst {
+            Inst::Store { ty, ptr, .. } => self.bytes(*ptr, size_of(*ty)),
+            Inst::Copy { to, len, .. } => self.bytes(to.val, *len),
+            _ => None,
+        }
+    }
+
+    /// The location that an instruction reads: a load's bytes, a memcpy's source, or `ReadBy` for a call that may read. `None`
+    /// exactly elsewhere.
+    pub fn reads(&self, func: &Func, i: InstNo) -> Option<Loc>
+        requires { IsAliasOf func.now self.now }
+        ensures { (loc : Loc) → (result ≡ Some loc) ↔ ReadsLoc func.now i loc }
+    {
+        match func.inst(i) {
+            Some(inst) => self.read_loc(i, inst),
+            None => None,
+        }
+    }
+
+    /// The bytes that a store writes, or a memcpy's destination. `None` exactly elsewhere.
+    pub fn writes(&self, func: &Func, i: InstNo) -> Option<Loc>
+        requires { IsAliasOf func.now self.now }
+        ensures { (loc : Loc) → (result ≡ Some loc) ↔ WritesLoc func.now i loc }
+    {
+        match func.inst(i) {
+            Some(inst) => self.written_loc(inst),
+            None => None,
+        }
+    }
+
+    /// Whether a root is fixed: a global, an argument or an alloca, or made in a block on no cycle among reached blocks.
+    pub fn fixed(&self, func: &Func, root: Root) -> bool
+        requires { IsAliasOf func.now self.now }
+        ensures { IsTrue result ↔ IsFixed func.now root }
+    {
+        let _func = func;
+        !self.is_turning(root)
+    }
+
+    /// Whether a base of a root is no alloca.
+    pub fn outer(&self, func: &Func, root: Root) -> bool
+        requires { IsAliasOf func.now self.now }
+        ensures { IsTrue result ↔ IsOuter func.now root }
+    {
+        let _func = func;
+        self.has_outer(self.set_of(root))
+    }
+
+    // Whether a set is that of a captured alloca.
+    fn caught_at(&self, set: Set) -> bool
+        ensures { result ≡ caught_at self.now.captured set }
+    {
+        match set {
+            Set::Alloca(c) => {
+                if c as usize >= self.captured.len() {
+                    return false;
+                }
+                self.captured[c as usize]
+            }
+            _ => false,
+        }
+    }
+
+    /// Whether a call passes a pointer to an alloca as an argument that the callee may keep.
+    pub fn captured(&self, alloca: LocalNo) -> bool
+        ensures { (f : FuncState) → IsAliasOf f self.now → (IsTrue result ↔ IsCaptured f alloca) }
+    {
+        self.caught_at(self.set_of(Root::Local(alloca)))
     }
 }
