@@ -4,3 +4,4 @@ pub mod Meeting
 pub mod Reaches
 pub mod Roots
 pub mod Tables
+pub mod Building

@@ -5,6 +5,7 @@ mod alias;
 mod laws;
 mod loc;
 mod maker;
+mod marks;
 mod origins;
 mod sets;
 mod touch;
