@@ -6,3 +6,4 @@ pub mod RootLemmas
 pub mod Queries
 pub mod Rings
 pub mod Sums
+pub mod Floods

@@ -298,9 +298,9 @@ pub record IsCaptures (t : BasesState) (f : FuncState) (captured : List Bool) : 
 abbrev pub IsFor : BasesState → FuncState → LocalNo → Set → Type 0
 IsFor t f l Nothing = (maker_of f l ≡ None) × (IsArgument f l → ⊥)
 IsFor t f l Argument = (maker_of f l ≡ None) × IsArgument f l
-IsFor t f l (Alloca c) = (slice_get t.columns c ≡ Some (Local l)) × ((m : Maker) × (maker_of f l ≡ Some m) × (is_alloca m.inst ≡ true))
+IsFor t f l (Alloca c) = (slice_get t.columns c ≡ Some (Local l)) × ((m : Maker) × (maker_of f l ≡ Some m) × (is_alloca m.inst ≡ true)) × (IsArgument f l → ⊥)
 IsFor t f l (Object g) = ⊥
-IsFor t f l (Brought k) = (k ≡ l.0) × (length (row_of t k).bits ≡ length t.columns) × ((m : Maker) × (maker_of f l ≡ Some m) × (is_alloca m.inst ≡ false))
+IsFor t f l (Brought k) = (k ≡ l.0) × (length (row_of t k).bits ≡ length t.columns) × ((m : Maker) × (maker_of f l ≡ Some m) × (is_alloca m.inst ≡ false)) × (IsArgument f l → ⊥)
 
 -- There is a set for each local, a row for each that an instruction brings, and a column for each alloca and each global that is brought.
 pub record HasRoom (t : BasesState) (f : FuncState) : Type 0 where

@@ -2,6 +2,7 @@
 #![tactic(auto)]
 
 mod alias;
+mod flood;
 mod laws;
 mod loc;
 mod maker;

@@ -1,5 +1,5 @@
 // The bases of pointers.
-ghost use Rattle.std.specs.Prelude.{◌≡◌, ◌<◌, ◌&&◌, length, slice_index_or, false};
+ghost use Rattle.std.specs.Prelude.{◌≡◌, ◌<◌, ◌&&◌, length, slice_index_or, slice_set, true, false};
 ghost use Rattle.ms_alias.specs.Tables.{same_root, share_mark};
 
 use crate::loc::Root;
@@ -34,7 +34,41 @@ impl Model for Row {
 }
 
 impl Row {
+    ghost use Rattle.std.specs.Prelude.{replicate};
     ghost use Rattle.ms_alias.specs.Tables.{bit_of};
+
+    /// Takes all marks away.
+    pub fn clear(&mut self)
+        ensures { self.new ≡ record { bits = replicate (length self.old.bits) false; argument = false; outer = false } }
+    {
+        self.bits.fill(false);
+        self.argument = false;
+        self.outer = false;
+    }
+
+    /// Marks a column, where there is such a one.
+    pub fn mark(&mut self, column: usize)
+        ensures { self.new ≡ record self.old { bits = slice_set self.old.bits column true } }
+    {
+        if column < self.bits.len() {
+            self.bits[column] = true;
+        }
+    }
+
+    /// A base is no alloca.
+    pub fn mark_outer(&mut self)
+        ensures { self.new ≡ record self.old { outer = true } }
+    {
+        self.outer = true;
+    }
+
+    /// A base is an argument.
+    pub fn mark_argument(&mut self)
+        ensures { self.new ≡ record self.old { argument = true; outer = true } }
+    {
+        self.argument = true;
+        self.outer = true;
+    }
 
     /// Whether a column is marked.
     pub fn bit(&self, column: usize) -> bool
