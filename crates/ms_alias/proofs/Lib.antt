@@ -7,3 +7,6 @@ pub mod Queries
 pub mod Rings
 pub mod Sums
 pub mod Floods
+pub mod Counting
+pub mod Tabled
+pub mod Rooms

@@ -2,14 +2,17 @@
 #![tactic(auto)]
 
 mod alias;
+mod captures;
 mod flood;
 mod laws;
 mod loc;
 mod maker;
 mod marks;
 mod origins;
+mod room;
 mod sets;
 mod touch;
+mod turning;
 
 pub use alias::Alias;
 pub use loc::{Loc, Root};
