@@ -10,3 +10,5 @@ pub mod Floods
 pub mod Counting
 pub mod Tabled
 pub mod Rooms
+pub mod Filled
+pub mod Renewed

@@ -10,6 +10,7 @@ mod maker;
 mod marks;
 mod origins;
 mod room;
+mod rows;
 mod sets;
 mod touch;
 mod turning;

@@ -91,8 +91,8 @@ fn find_origin(func: &Func, rings: &Marks, marks: &mut Marks, l: u64) -> Origin
     }
 }
 
-/// Finds which locals are on rings.
-pub fn find_rings(func: &Func, rings: &mut Marks, marks: &mut Marks)
+// Finds which locals are on rings.
+fn find_rings(func: &Func, rings: &mut Marks, marks: &mut Marks)
     requires same { length rings.old ≡ length marks.old }
     requires beyond { IsBeyond func.now (length marks.old) }
     ensures rings { AreRings func.now rings.new }
@@ -105,8 +105,8 @@ pub fn find_rings(func: &Func, rings: &mut Marks, marks: &mut Marks)
     }
 }
 
-/// The origin of each local, in the order of their numbers. `Err` comes only where memory is wanting.
-pub fn find_origins(
+// The origin of each local, in the order of their numbers. `Err` comes only where memory is wanting.
+fn find_origins(
     alloc: Global,
     func: &Func,
     rings: &Marks,
@@ -125,4 +125,23 @@ pub fn find_origins(
         origins.push(find_origin(func, rings, marks, l))?;
     }
     Ok(origins)
+}
+
+/// The origin of each local, in the order of their numbers, and as many marks. `Err` comes only where memory is wanting.
+pub fn find_all_origins(
+    alloc: Global,
+    func: &Func,
+    count: usize,
+) -> Result<(Vec<Origin>, Marks), NoMemory>
+    requires few { count < 2 ^ 32 }
+    requires beyond { IsBeyond func.now count }
+    requires near { HasNearSteps func.now }
+    ensures origins { IfOk result (λ v. IsOrigins func.now v.0.items) }
+    ensures marks { IfOk result (λ v. length v.1 ≡ count) }
+{
+    let mut rings = Marks::new(alloc, count)?;
+    let mut marks = Marks::new(alloc, count)?;
+    find_rings(func, &mut rings, &mut marks);
+    let origins = find_origins(alloc, func, &rings, &mut marks)?;
+    Ok((origins, marks))
 }

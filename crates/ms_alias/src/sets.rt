@@ -147,6 +147,13 @@ pub fn share_mark(xs: &[bool], ys: &[bool]) -> bool
 impl Bases {
     ghost use Rattle.ms_alias.specs.Tables.{set_of, global_column, row_of, bit_of, bit_at, have_common, has_argument, has_outer, sets_meet, is_caught, is_known};
 
+    /// How many locals there are.
+    pub fn count(&self) -> u64
+        ensures { result ≡ length self.now.sets }
+    {
+        self.sets.len() as u64
+    }
+
     /// What is known of the bases of a pointer.
     pub fn set_of(&self, p: Root) -> Set
         ensures { result ≡ set_of self.now p }
