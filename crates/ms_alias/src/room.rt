@@ -163,7 +163,8 @@ fn make_rows(alloc: Global, sets: &[Set], columns: usize) -> Result<Vec<Row>, No
 /// Room for the bases of a function's pointers. `Err` comes only where memory is wanting.
 pub fn room(alloc: Global, func: &Func) -> Result<Bases, NoMemory>
     requires { func.now.locals < 2 ^ 32 }
-    ensures { IfOk result (λ t. HasRoom t func.now) }
+    ensures room { IfOk result (λ t. HasRoom t func.now) }
+    ensures count { IfOk result (λ t. length t.sets ≡ func.now.locals) }
 {
     func.numbered();
     let count = func.local_count();

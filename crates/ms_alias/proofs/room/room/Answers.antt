@@ -5,8 +5,8 @@ use Rattle.ms_alias.specs.Building.{AreKinds, HaveFirst, HaveRows}
 use Rattle.ms_alias.proofs.Rooms.{has_room}
 use Rattle.ms_alias.proofs.room.room.Goals as goal
 
-pub returns : goal.returns
-returns c =
+pub returns-clause-room : goal.returns-clause-room
+returns-clause-room c =
     let f = c.args.func.now in
     let count = c.local_count-count.ensures in
     let columns : List Root = c.add_locals.new.columns.items in
@@ -17,3 +17,6 @@ returns c =
     let len : c.len.result ≡ length columns = omega (arith, c.len.ensures) in
     let rows = subst (λ n. HaveRows sets n c.in_ok-rows.rows.items) len (subst (λ xs. HaveRows xs c.len.result c.in_ok-rows.rows.items) c.as_slice.ensures.value c.in_ok-rows.ensures) in
     has_room f c.numbered.ensures (record { sets = sets; columns = columns; rows = c.in_ok-rows.rows.items }) c.find_sets.new.columns.items kinds c.in_ok-add_locals.ensures.longer first rows
+
+pub returns-clause-count : goal.returns-clause-count
+returns-clause-count c = c.in_ok-sets.ensures.len ∙ c.local_count-count.ensures
