@@ -4,7 +4,6 @@
 mod alias;
 mod captures;
 mod flood;
-mod laws;
 mod loc;
 mod maker;
 mod marks;
