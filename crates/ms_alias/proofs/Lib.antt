@@ -12,3 +12,4 @@ pub mod Tabled
 pub mod Rooms
 pub mod Filled
 pub mod Renewed
+pub mod Locations

@@ -14,18 +14,6 @@ use Rattle.ms_alias.specs.Roots.{Maker, Step, is_alloca, maker_of, step_by_maker
 use Rattle.ms_alias.specs.Bases.{leads_of, IsArgument}
 use Rattle.ms_alias.specs.Tables.{RowState, no_row, same_root, BasesState, set_of, global_column, row_of, bit_of, val_set, caught_at}
 
--- the bytes of one getelementptr are at most so many either way
-abbrev pub IsNear : ℕ → ℤ → Type 0
-IsNear limit z = ((pos 0 -ℤ pos limit) ≤ℤ z) × (z ≤ℤ pos limit)
-
--- the greatest offset of one getelementptr, either way
-abbrev pub greatest_offset : ℕ
-greatest_offset = 2147483648
-
--- no getelementptr's offset passes its limit
-abbrev pub HasNearSteps : FuncState → Type 0
-HasNearSteps f = (l : LocalNo) (s : Step) → step_by_maker (maker_of f l) ≡ Some s → IsNear greatest_offset s.bytes
-
 -- no local from this number on is a pointer that an instruction makes
 abbrev pub IsBeyond : FuncState → ℕ → Type 0
 IsBeyond f n = (l : LocalNo) → n ≤ l.0 → maker_of f l ≡ None

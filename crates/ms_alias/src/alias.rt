@@ -84,7 +84,7 @@ fn holds_byte(from: i64, len: u32, byte: i64) -> bool
 impl Alias {
     ghost use Rattle.ms_ir.specs.Func.{FuncState};
     ghost use Rattle.ms_flow.specs.Table.{edges_of};
-    ghost use Rattle.ms_alias.specs.Building.{HasNearSteps};
+    ghost use Rattle.ms_alias.specs.Offsets.{AreOffsetsNear};
     ghost use Rattle.ms_alias.specs.Roots.{IsFixed};
     ghost use Rattle.ms_alias.specs.Captured.{Differ, IsCaptured, IsCapturedBut};
     ghost use Rattle.ms_alias.specs.Reaches.{Reach, ReadsLoc, WritesLoc};
@@ -95,7 +95,7 @@ impl Alias {
     /// or for 2^32 locals and more.
     pub fn of(alloc: Global, func: &Func, flow: &Flow) -> Result<Alias, NoMemory>
         requires flow { flow.now.graph ≡ edges_of func.now.blocks }
-        requires near { HasNearSteps func.now }
+        requires near { AreOffsetsNear func.now }
         ensures { IfOk result (λ a. IsAliasOf func.now a) }
     {
         let count = func.local_count();

@@ -4,6 +4,7 @@
 mod alias;
 mod captures;
 mod flood;
+mod laws;
 mod loc;
 mod maker;
 mod marks;
@@ -15,4 +16,5 @@ mod touch;
 mod turning;
 
 pub use alias::Alias;
+pub use laws::{one_location, tests_told};
 pub use loc::{Loc, Root};
