@@ -13,3 +13,5 @@ pub mod Rooms
 pub mod Filled
 pub mod Renewed
 pub mod Locations
+pub mod Edits
+pub mod Same
