@@ -1,0 +1,5 @@
+pub mod Answer
+pub mod Options
+pub mod Chains
+pub mod Walk
+pub mod Skips
