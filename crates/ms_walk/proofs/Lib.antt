@@ -1,0 +1,4 @@
+pub mod Writing
+pub mod Once
+pub mod Roots
+pub mod Marks
