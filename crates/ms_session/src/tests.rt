@@ -5,7 +5,7 @@ ghost use Rattle.ms_paths.specs.Flow.{IsClosed, IsReducible};
 ghost use Rattle.ms_ir.specs.Graph.{graph_of};
 ghost use Rattle.ms_flow.specs.Table.{edges_of};
 
-use crate::{Session, one_nearest};
+use crate::{Session, one_annotated};
 use ms_flow::Flow;
 use ms_ir::{BlockNo, Func, Inst, Items, LocalNo, Name, Names, Param, Term, Text, Ty, Val};
 use std::alloc::Global;
@@ -135,7 +135,7 @@ fn check(rt: &impl Abort, alloc: Global, session: &mut Session) {
 #[test]
 fn a_loop_has_a_phi(rt: HostRuntime) -> Result<(), Fail> {
     let alloc = rt.alloc();
-    one_nearest();
+    one_annotated();
     let mut f = looping(&rt, alloc);
     put(&rt, &mut f, 0, store(alloc, 0));
     put(&rt, &mut f, 1, load(alloc));
