@@ -7,3 +7,8 @@ pub mod Queries
 pub mod Rings
 pub mod Sums
 pub mod Floods
+pub mod Counting
+pub mod Tabled
+pub mod Rooms
+pub mod Filled
+pub mod Renewed

@@ -315,3 +315,8 @@ pub record IsAliasOf (f : FuncState) (a : AliasState) : Type 0 where
   pub turning : IsTurnings f a.turning
   pub bases : IsBases a.bases f
   pub captured : IsCaptures a.bases f a.captured
+
+-- The same but for the roots that turn, the bases and the captured allocas, which are found afresh after an edge was cut.
+pub record IsReady (f : FuncState) (a : AliasState) : Type 0 where
+  pub room : HasRoom a.bases f
+  pub origins : IsOrigins f a.origins

@@ -1,13 +1,21 @@
 // What the instructions of a function may read and write.
-ghost use Rattle.std.specs.Prelude.{◌≡◌, ◌<◌, ◌≤◌, ◌+ℤ◌, ◌↔◌, ℕ, ℤ, pos, int_lt, IsTrue, length, MatchOption, IfSome, Some, None, if◌then◌else◌, [], slice_index_or, false};
+ghost use Rattle.std.specs.Prelude.{◌≡◌, ◌<◌, ◌≤◌, ◌+ℤ◌, ◌↔◌, ℕ, ℤ, pos, int_lt, IsTrue, IfOk, length, Some, None, if◌then◌else◌, [], slice_index_or, false};
 ghost use Rattle.ms_alias.specs.Tables.{ranges_meet, holds_byte};
 
+use crate::captures::recount;
+use crate::flood::Flood;
 use crate::loc::{Loc, Root};
 use crate::maker::{pointer_of, size_of};
-use crate::origins::Origin;
+use crate::marks::Marks;
+use crate::origins::{Origin, find_all_origins};
+use crate::room::room;
+use crate::rows::fill_rows;
 use crate::sets::{Bases, Set, same_root};
 use crate::touch::Touch;
-use ms_ir::{Arg, Func, Inst, InstNo, LocalNo, Val};
+use crate::turning::find_turning;
+use ms_flow::Flow;
+use ms_ir::{Arg, Func, Inst, InstNo, LocalNo, NoMemory, Val};
+use std::alloc::Global;
 use std::marker::Model;
 
 /// The pointers of a function: their roots and offsets, their bases, which roots may change from turn to turn of a loop, and
@@ -15,17 +23,25 @@ use std::marker::Model;
 #[derive(Drop)]
 pub struct Alias {
     origins: Vec<Origin>,
-    turning: Vec<bool>,
+    turning: Marks,
     bases: Bases,
-    captured: Vec<bool>,
+    // by column
+    captured: Marks,
+    // for changes
+    next: Marks,
+    flood: Flood,
 }
 
 impl Model for Alias {
+    ghost use Rattle.std.specs.Prelude.{◌≡◌, length};
     ghost use Rattle.ms_alias.specs.Tables.{AliasState};
 
     ghost Value = { AliasState };
 
-    ghost view = { λ a. record { origins = a.origins.items; turning = a.turning.items; bases = a.bases; captured = a.captured.items } };
+    ghost view = { λ a. record { origins = a.origins.items; turning = a.turning; bases = a.bases; captured = a.captured } };
+
+    ghost invariant = { λ a. (length a.turning ≡ length a.bases.sets) × (length a.flood.marked ≡ length a.bases.sets)
+        × (length a.flood.row.bits ≡ length a.bases.columns) × (length a.captured ≡ length a.bases.columns) × (length a.next ≡ length a.bases.columns) };
 }
 
 // The arguments, or none of them.
@@ -66,11 +82,53 @@ fn holds_byte(from: i64, len: u32, byte: i64) -> bool
 
 impl Alias {
     ghost use Rattle.ms_ir.specs.Func.{FuncState};
+    ghost use Rattle.ms_flow.specs.Table.{edges_of};
+    ghost use Rattle.ms_alias.specs.Building.{HasNearSteps};
     ghost use Rattle.ms_alias.specs.Roots.{IsFixed};
     ghost use Rattle.ms_alias.specs.Captured.{IsCaptured};
     ghost use Rattle.ms_alias.specs.Reaches.{Reach, ReadsLoc, WritesLoc};
     ghost use Rattle.ms_alias.specs.Meeting.{MayWrite, MayRead, MustWrite, IsOuter};
-    ghost use Rattle.ms_alias.specs.Tables.{AliasState, IsAliasOf, origin_of, val_origin, is_turning, val_set, sets_meet, is_known, args_meet, call_meets, call_meets_args, are_known, calls_meet, spans_meet, reaches_meet, reach_of, reach_in, read_reach, write_reach, IsReachBy, IsReadBy, IsWrittenBy, span_at, meet_in, must_hold, bytes_at, read_loc, written_loc, caught_at, set_of, has_outer};
+    ghost use Rattle.ms_alias.specs.Tables.{AliasState, IsAliasOf, IsReady, origin_of, val_origin, is_turning, val_set, sets_meet, is_known, args_meet, call_meets, call_meets_args, are_known, calls_meet, spans_meet, reaches_meet, reach_of, reach_in, read_reach, write_reach, IsReachBy, IsReadBy, IsWrittenBy, span_at, meet_in, must_hold, bytes_at, read_loc, written_loc, caught_at, set_of, has_outer};
+
+    /// The pointers of a function. It takes all the memory that each other call needs. `Err` comes only where memory is wanting,
+    /// or for 2^32 locals and more.
+    pub fn of(alloc: Global, func: &Func, flow: &Flow) -> Result<Alias, NoMemory>
+        requires flow { flow.now.graph ≡ edges_of func.now.blocks }
+        requires near { HasNearSteps func.now }
+        ensures { IfOk result (λ a. IsAliasOf func.now a) }
+    {
+        let count = func.local_count();
+        if count >= 1 << 32 {
+            return Err(NoMemory);
+        }
+        let bases = room(alloc, func)?;
+        let (origins, turning) = find_all_origins(alloc, func, bases.count() as usize)?;
+        let columns = bases.columns.len();
+        let flood = Flood::new(alloc, bases.sets.len(), columns)?;
+        let captured = Marks::new(alloc, columns)?;
+        let next = Marks::new(alloc, columns)?;
+        let mut alias = Alias {
+            origins,
+            turning,
+            bases,
+            captured,
+            next,
+            flood,
+        };
+        alias.renew(func, flow);
+        Ok(alias)
+    }
+
+    /// The pointers are found afresh after an edge was cut, and wherever no other getelementptr was made. It takes no memory.
+    pub fn renew(&mut self, func: &Func, flow: &Flow)
+        requires ready { IsReady func.now self.old }
+        requires flow { flow.now.graph ≡ edges_of func.now.blocks }
+        ensures { IsAliasOf func.now self.new }
+    {
+        find_turning(func, flow, &mut self.turning);
+        fill_rows(func, &mut self.bases, &mut self.flood);
+        recount(&self.bases, func, None, &mut self.captured);
+    }
 
     // The root and offset of a pointer.
     fn origin_of(&self, p: Root) -> Origin
@@ -103,10 +161,10 @@ impl Alias {
     {
         match root {
             Root::Local(l) => {
-                if l.0 as usize >= self.turning.len() {
+                if l.0 >= self.turning.len() {
                     return false;
                 }
-                self.turning[l.0 as usize]
+                self.turning.has(l.0)
             }
             Root::Global(_) => false,
         }
@@ -443,10 +501,10 @@ impl Alias {
     {
         match set {
             Set::Alloca(c) => {
-                if c as usize >= self.captured.len() {
+                if c as u64 >= self.captured.len() {
                     return false;
                 }
-                self.captured[c as usize]
+                self.captured.has(c as u64)
             }
             _ => false,
         }

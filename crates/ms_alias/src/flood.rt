@@ -1,5 +1,5 @@
 // The search for the bases of a local, which takes no memory.
-ghost use Rattle.std.specs.Prelude.{◌≡◌, ◌<◌, ◌++◌, [], map, length, IfNone};
+ghost use Rattle.std.specs.Prelude.{◌≡◌, ◌<◌, ◌++◌, [], map, length, IfNone, IfOk};
 ghost use Rattle.std.specs.Option.{option_to_list};
 ghost use Rattle.ms_alias.specs.Tables.{IsRow, HasRoom};
 ghost use Rattle.ms_ir.specs.declared.inst.Entry.{Entry as PhiEntry};
@@ -9,7 +9,8 @@ ghost use Rattle.ms_alias.specs.Bases.{pointers_in, sources_in, leads_of};
 use crate::loc::Root;
 use crate::maker::{maker, pointer_of};
 use crate::sets::{Bases, Row, Set};
-use ms_ir::{Entry, Func, Inst, LocalNo, Val};
+use ms_ir::{Entry, Func, Inst, LocalNo, NoMemory, Val};
+use std::alloc::Global;
 use std::marker::Model;
 
 /// A search: which locals were met, those of them that were not visited yet, and the bases so far. There is room for all locals.
@@ -36,6 +37,18 @@ impl Flood {
     ghost use Rattle.ms_ir.specs.declared.names.LocalNo.{LocalNo as LocalNumber};
     ghost use Rattle.ms_alias.specs.declared.loc.Root.TheVariants.{Local};
     ghost use Rattle.ms_alias.specs.Building.{FloodState, flood_begun, met, took, took_option, took_all, owned, visited};
+
+    /// Room for a search of so many locals and columns.
+    pub fn new(alloc: Global, count: usize, columns: usize) -> Result<Flood, NoMemory>
+        ensures marked { IfOk result (λ f. length f.marked ≡ count) }
+        ensures bits { IfOk result (λ f. length f.row.bits ≡ columns) }
+    {
+        Ok(Flood {
+            marks: Vec::from_elem(alloc, false, count)?,
+            todo: Vec::with_capacity(alloc, count)?,
+            row: Row::new(alloc, columns)?,
+        })
+    }
 
     // Begins anew.
     fn clear(&mut self)

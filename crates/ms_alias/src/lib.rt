@@ -2,14 +2,18 @@
 #![tactic(auto)]
 
 mod alias;
+mod captures;
 mod flood;
 mod laws;
 mod loc;
 mod maker;
 mod marks;
 mod origins;
+mod room;
+mod rows;
 mod sets;
 mod touch;
+mod turning;
 
 pub use alias::Alias;
 pub use loc::{Loc, Root};

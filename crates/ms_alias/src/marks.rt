@@ -59,4 +59,11 @@ impl Marks {
     {
         self.seen[l as usize] = mark;
     }
+
+    /// The marks in the order of the locals.
+    pub fn as_slice(&self) -> &[bool]
+        ensures { result.now ≡ self.now }
+    {
+        self.seen.as_slice()
+    }
 }

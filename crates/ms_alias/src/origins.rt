@@ -1,14 +1,16 @@
 // The roots and offsets of pointers.
-ghost use Rattle.std.specs.Prelude.{◌≡◌, ◌<◌, ◌≤◌, ◌^◌, ◌↔◌, ℕ, IsTrue, length, Some, false};
+ghost use Rattle.std.specs.Prelude.{◌≡◌, ◌<◌, ◌≤◌, ◌^◌, ◌↔◌, ℕ, IsTrue, IfOk, length};
 ghost use Rattle.ms_ir.specs.declared.names.LocalNo.{LocalNo as LocalNumber};
 ghost use Rattle.ms_alias.specs.declared.loc.Root.TheVariants.{Local};
 ghost use Rattle.ms_alias.specs.Roots.{maker_of, step_by_maker, IsRing, HasRoot};
 ghost use Rattle.ms_alias.specs.Building.{AreRings, IsBeyond, HasNearSteps, next_local};
+ghost use Rattle.ms_alias.specs.Tables.{IsOrigins};
 
 use crate::loc::Root;
 use crate::maker::step;
 use crate::marks::Marks;
-use ms_ir::{Func, LocalNo};
+use ms_ir::{Func, LocalNo, NoMemory};
+use std::alloc::Global;
 
 /// The root of a pointer and its offset from there.
 #[derive(Clone, Copy)]
@@ -28,8 +30,8 @@ fn next_of(func: &Func, limit: u64, l: u64) -> Option<u64>
     }
 }
 
-/// Whether the getelementptrs of a local lead back to it.
-pub fn comes_back(func: &Func, marks: &mut Marks, l: u64) -> bool
+// Whether the getelementptrs of a local lead back to it.
+fn comes_back(func: &Func, marks: &mut Marks, l: u64) -> bool
     requires there { l < length marks.old }
     requires beyond { IsBeyond func.now (length marks.old) }
     ensures ring { IsTrue result ↔ IsRing func.now (Local (record { 0 = l })) }
@@ -87,4 +89,59 @@ fn find_origin(func: &Func, rings: &Marks, marks: &mut Marks, l: u64) -> Origin
         sum += bytes;
         at = base;
     }
+}
+
+// Finds which locals are on rings.
+fn find_rings(func: &Func, rings: &mut Marks, marks: &mut Marks)
+    requires same { length rings.old ≡ length marks.old }
+    requires beyond { IsBeyond func.now (length marks.old) }
+    ensures rings { AreRings func.now rings.new }
+    ensures len { length rings.new ≡ length marks.old }
+    ensures marks { length marks.new ≡ length marks.old }
+{
+    for l in 0..rings.len() {
+        let ring = comes_back(func, marks, l);
+        rings.put(l, ring);
+    }
+}
+
+// The origin of each local, in the order of their numbers. `Err` comes only where memory is wanting.
+fn find_origins(
+    alloc: Global,
+    func: &Func,
+    rings: &Marks,
+    marks: &mut Marks,
+) -> Result<Vec<Origin>, NoMemory>
+    requires few { length marks.old < 2 ^ 32 }
+    requires same { length rings.now ≡ length marks.old }
+    requires beyond { IsBeyond func.now (length marks.old) }
+    requires rings { AreRings func.now rings.now }
+    requires near { HasNearSteps func.now }
+    ensures origins { IfOk result (λ v. IsOrigins func.now v.items) }
+    ensures len { length marks.new ≡ length marks.old }
+{
+    let mut origins = Vec::new(alloc);
+    for l in 0..rings.len() {
+        origins.push(find_origin(func, rings, marks, l))?;
+    }
+    Ok(origins)
+}
+
+/// The origin of each local, in the order of their numbers, and as many marks. `Err` comes only where memory is wanting.
+pub fn find_all_origins(
+    alloc: Global,
+    func: &Func,
+    count: usize,
+) -> Result<(Vec<Origin>, Marks), NoMemory>
+    requires few { count < 2 ^ 32 }
+    requires beyond { IsBeyond func.now count }
+    requires near { HasNearSteps func.now }
+    ensures origins { IfOk result (λ v. IsOrigins func.now v.0.items) }
+    ensures marks { IfOk result (λ v. length v.1 ≡ count) }
+{
+    let mut rings = Marks::new(alloc, count)?;
+    let mut marks = Marks::new(alloc, count)?;
+    find_rings(func, &mut rings, &mut marks);
+    let origins = find_origins(alloc, func, &rings, &mut marks)?;
+    Ok((origins, marks))
 }

@@ -1,9 +1,10 @@
 // The bases of pointers.
-ghost use Rattle.std.specs.Prelude.{◌≡◌, ◌<◌, ◌&&◌, length, slice_index_or, slice_set, true, false};
+ghost use Rattle.std.specs.Prelude.{◌≡◌, ◌<◌, ◌&&◌, length, slice_index_or, slice_set, true, false, IfOk};
 ghost use Rattle.ms_alias.specs.Tables.{same_root, share_mark};
 
 use crate::loc::Root;
-use ms_ir::GlobalNo;
+use ms_ir::{GlobalNo, NoMemory};
+use std::alloc::Global;
 use std::marker::Model;
 
 /// What the bases of a pointer are: none; one argument; the alloca of a column; one global; or what instructions bring to a
@@ -36,6 +37,17 @@ impl Model for Row {
 impl Row {
     ghost use Rattle.std.specs.Prelude.{replicate};
     ghost use Rattle.ms_alias.specs.Tables.{bit_of};
+
+    /// A row of so many columns without a mark.
+    pub fn new(alloc: Global, columns: usize) -> Result<Row, NoMemory>
+        ensures { IfOk result (λ r. r ≡ record { bits = replicate columns false; argument = false; outer = false }) }
+    {
+        Ok(Row {
+            bits: Vec::from_elem(alloc, false, columns)?,
+            argument: false,
+            outer: false,
+        })
+    }
 
     /// Takes all marks away.
     pub fn clear(&mut self)
@@ -135,6 +147,13 @@ pub fn share_mark(xs: &[bool], ys: &[bool]) -> bool
 impl Bases {
     ghost use Rattle.ms_alias.specs.Tables.{set_of, global_column, row_of, bit_of, bit_at, have_common, has_argument, has_outer, sets_meet, is_caught, is_known};
 
+    /// How many locals there are.
+    pub fn count(&self) -> u64
+        ensures { result ≡ length self.now.sets }
+    {
+        self.sets.len() as u64
+    }
+
     /// What is known of the bases of a pointer.
     pub fn set_of(&self, p: Root) -> Set
         ensures { result ≡ set_of self.now p }
@@ -159,8 +178,8 @@ impl Bases {
             .position(|q| same_root(Root::Global(g), *q))
     }
 
-    // Whether the row of a local has a mark at a column.
-    fn bit(&self, l: u32, column: usize) -> bool
+    /// Whether the row of a local has a mark at a column.
+    pub fn bit(&self, l: u32, column: usize) -> bool
         ensures { result ≡ bit_of (row_of self.now l) column }
     {
         if l as usize >= self.rows.len() {

@@ -2,3 +2,4 @@ pub mod Writing
 pub mod Once
 pub mod Roots
 pub mod Marks
+pub mod Spare
