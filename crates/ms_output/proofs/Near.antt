@@ -78,11 +78,11 @@ near_insts : (s : Scope) (n l k : ℕ) (xs : List InstLine) (m : LocalNo) (st : 
     → IsNear greatest_offset st.bytes
 near_insts s n l k [] m st small e = cc
 near_insts s n l k (x ∷ xs) m st small e =
-    by (makes m (placed_at s n l x)) e
+    by (makes m (placed_at s n l x)) (near_insts s (suc n) (local_behind l x) k xs m st small.1) e
   where
-    by : (t : Bool) → step_by_maker (if t then Some (record { block = k; inst = inst_of s x.inst }) else maker_in k (insts_from s (suc n) (local_behind l x) xs) m) ≡ Some st → IsNear greatest_offset st.bytes
-    by true h = near_inst s x.inst st small.0 h
-    by false h = near_insts s (suc n) (local_behind l x) k xs m st small.1 h
+    by : (t : Bool) → (step_by_maker (maker_in k (insts_from s (suc n) (local_behind l x) xs) m) ≡ Some st → IsNear greatest_offset st.bytes) → step_by_maker (if t then Some (record { block = k; inst = inst_of s x.inst }) else maker_in k (insts_from s (suc n) (local_behind l x) xs) m) ≡ Some st → IsNear greatest_offset st.bytes
+    by true rest h = near_inst s x.inst st small.0 h
+    by false rest h = rest h
 
 near_or : (a c : Option Maker) (st : Step) (P : Type 0) → (step_by_maker a ≡ Some st → P) → (step_by_maker c ≡ Some st → P) → step_by_maker (or_else a c) ≡ Some st → P
 near_or None c st P f g e = g e
@@ -93,8 +93,8 @@ near_blocks : (s : Scope) (b n l k : ℕ) (bs : List BlockLines) (m : LocalNo) (
 near_blocks s b n l k [] m st small e = cc
 near_blocks s b n l k (x ∷ xs) m st small e =
     let here = each_front IsSmallAt (block_lines x) (flat_map block_lines xs) small in
-    let behind = each_rest IsSmallAt (label_lines x.label) (map inst_line x.insts ++ (x.end.line, said.Term x.end.term) ∷ []) here in
-    let insts = each_front IsSmallAt (map inst_line x.insts) ((x.end.line, said.Term x.end.term) ∷ []) behind in
+    let front = each_front IsSmallAt (label_lines x.label ++ map inst_line x.insts) ((x.end.line, said.Term x.end.term) ∷ []) here in
+    let insts = each_rest IsSmallAt (label_lines x.label) (map inst_line x.insts) front in
     let rest = each_rest IsSmallAt (block_lines x) (flat_map block_lines xs) small in
     near_or (maker_in k (insts_from s n l x.insts) m) (maker_from (suc k) (blocks_from s (suc b) (n + length x.insts) (locals_behind l x.insts) xs) m) st (IsNear greatest_offset st.bytes)
     (near_insts s n l k x.insts m st insts)
