@@ -12,7 +12,7 @@ use Rattle.ms_print.specs.Text.{module_text}
 use Rattle.ms_resolve.specs.Shape.{ItemLines, IsShape}
 use Rattle.ms_resolve.specs.Faults.{HasNameFault}
 use Rattle.ms_resolve.specs.Module.{groups_of, module_of, IsModuleOf}
-use Rattle.ms_session.specs.Annotated.{IsNearest}
+use Rattle.ms_session.specs.Annotated.{IsAnnotated}
 use Rattle.ms_valid.specs.Faults.{bodies_there, HasTypeFault, HasEdgeFault, HasOrderFault, IsIrreducible}
 use Rattle.ms_valid.specs.Cause.{HasNone, IsNamed, IsAccepted, IsValidCause}
 use Rattle.ms_valid.specs.declared.fault.ValidFault.{ValidFault}
@@ -228,10 +228,10 @@ not_accepted draft m f r a c e =
 
 -- a function has one annotated text at most
 abbrev pub IsAnnotatedOnce : Type 0
-IsAnnotatedOnce = (names : NamesState) (f : FuncState) (t u : List ℕ) → IsNearest names f t → IsNearest names f u → t ≡ u
+IsAnnotatedOnce = (names : NamesState) (f : FuncState) (t u : List ℕ) → IsAnnotated names f t → IsAnnotated names f u → t ≡ u
 
 one_form : IsAnnotatedOnce → (names : NamesState) (f : FuncState) (t u : List ℕ) → IsForm names f t → IsForm names f u → t ≡ u
-one_form notes names f t u p q = p.form_is ∙ ap (λ k. form_text f.name k) (notes names f p.annotated q.annotated p.nearest q.nearest) ∙ sym q.form_is
+one_form notes names f t u p q = p.form_is ∙ ap (λ k. form_text f.name k) (notes names f p.annotated q.annotated p.says q.says) ∙ sym q.form_is
 
 one_forms : IsAnnotatedOnce → (names : NamesState) (prints : ℕ) (fs : List FuncState) (t u : List ℕ) → AreForms names prints fs t → AreForms names prints fs u → t ≡ u
 one_forms notes names prints [] t u p q = p ∙ sym q

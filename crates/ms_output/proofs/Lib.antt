@@ -8,3 +8,4 @@ pub mod Rendered
 pub mod Room
 pub mod Shapes
 pub mod Taken
+pub mod Near

@@ -21,12 +21,14 @@ use Rattle.ms_grammar.specs.declared.line.Line.{Line}
 use Rattle.ms_grammar.specs.declared.line.Line.TheVariants as said
 use Rattle.ms_grammar.specs.declared.line.RawTerm.{RawTerm}
 use Rattle.ms_grammar.specs.declared.line.RawTerm.TheVariants.{Br, CondBr, Ret, Unreachable}
-use Rattle.ms_resolve.specs.Shape.{LabelLine, InstLine, BlockLines, FuncLines, ItemLines, plain, body, HasBlocks, IsItem}
+use Rattle.ms_resolve.specs.Shape.{LabelLine, InstLine, BlockLines, FuncLines, ItemLines, plain, body, HasBlocks, IsItem, func_lines, item_lines}
 use Rattle.ms_resolve.specs.Made.{Made, makes, param_made, inst_made, label_made, block_made, made_in, named_from, free_behind, name_of_made, is_same_name, blocks_of}
 use Rattle.ms_resolve.specs.Scope.{Scope, or_first, number_of_name, term_of, locals_behind, blocks_from, func_of}
 use Rattle.ms_resolve.specs.Module.{scope_of, bodies_in}
 use Rattle.ms_valid.specs.Cause.{IsAccepted}
-use Rattle.ms_output.specs.Forms.{AreOpen}
+use Rattle.ms_alias.specs.Building.{HasNearSteps}
+use Rattle.ms_output.specs.Forms.{AreOpen, AreSmall, IsSmallAt}
+use Rattle.ms_output.proofs.Near.{each_front, each_rest, func_near}
 
 -- ---- what is not irreducible is reducible, since it can be tried
 
@@ -178,36 +180,38 @@ is_full o = is_some (body_in o)
 record IsBodyOf (scope : FuncLines → Scope) (spare : List ℕ → ℕ) (f : FuncState) : Type 0 where
   lines : FuncLines
   some : HasBlocks lines.blocks
+  small : AreSmall (func_lines lines)
   func_is : func_of (scope lines) (spare lines.head.name) lines ≡ f
 
 inner_same : (f g : FuncState) → Some (Some f) ≡ Some (Some g) → f ≡ g
 inner_same f g e = cc
 
-body_from : (scope : FuncLines → Scope) (spare : List ℕ → ℕ) (items : List ItemLines) → Each IsItem items → (n : ℕ) (f : FuncState)
+body_from : (scope : FuncLines → Scope) (spare : List ℕ → ℕ) (items : List ItemLines) → Each IsItem items → AreSmall (flat_map item_lines items) → (n : ℕ) (f : FuncState)
     → slice_get (flat_map (bodies_in scope spare) items) n ≡ Some (Some f) → IsBodyOf scope spare f
-body_from scope spare [] each n f e = let k : false ≡ true = ap is_some e in absurd (cc)
-body_from scope spare (body lines ∷ items) each zero f e = record { lines = lines; some = each.0; func_is = inner_same _ f e }
-body_from scope spare (body lines ∷ items) each (suc n) f e = body_from scope spare items each.1 n f e
-body_from scope spare (plain k (said.Declare head) ∷ items) each zero f e = let k : false ≡ true = ap is_full e in absurd (cc)
-body_from scope spare (plain k (said.Declare head) ∷ items) each (suc n) f e = body_from scope spare items each.1 n f e
-body_from scope spare (plain k said.Empty ∷ items) each n f e = body_from scope spare items each.1 n f e
-body_from scope spare (plain k said.Close ∷ items) each n f e = body_from scope spare items each.1 n f e
-body_from scope spare (plain k (said.Kept _) ∷ items) each n f e = body_from scope spare items each.1 n f e
-body_from scope spare (plain k (said.Group _ _) ∷ items) each n f e = body_from scope spare items each.1 n f e
-body_from scope spare (plain k (said.GlobalVar _ _) ∷ items) each n f e = body_from scope spare items each.1 n f e
-body_from scope spare (plain k (said.Label _) ∷ items) each n f e = body_from scope spare items each.1 n f e
-body_from scope spare (plain k (said.Define _) ∷ items) each n f e = body_from scope spare items each.1 n f e
-body_from scope spare (plain k (said.Inst _ _) ∷ items) each n f e = body_from scope spare items each.1 n f e
-body_from scope spare (plain k (said.Term _) ∷ items) each n f e = body_from scope spare items each.1 n f e
+body_from scope spare [] each small n f e = let k : false ≡ true = ap is_some e in absurd (cc)
+body_from scope spare (body lines ∷ items) each small zero f e = record { lines = lines; some = each.0; small = each_front IsSmallAt (func_lines lines) (flat_map item_lines items) small; func_is = inner_same _ f e }
+body_from scope spare (body lines ∷ items) each small (suc n) f e = body_from scope spare items each.1 (each_rest IsSmallAt (func_lines lines) (flat_map item_lines items) small) n f e
+body_from scope spare (plain k (said.Declare head) ∷ items) each small zero f e = let k : false ≡ true = ap is_full e in absurd (cc)
+body_from scope spare (plain k (said.Declare head) ∷ items) each small (suc n) f e = body_from scope spare items each.1 small.1 n f e
+body_from scope spare (plain k said.Empty ∷ items) each small n f e = body_from scope spare items each.1 small.1 n f e
+body_from scope spare (plain k said.Close ∷ items) each small n f e = body_from scope spare items each.1 small.1 n f e
+body_from scope spare (plain k (said.Kept _) ∷ items) each small n f e = body_from scope spare items each.1 small.1 n f e
+body_from scope spare (plain k (said.Group _ _) ∷ items) each small n f e = body_from scope spare items each.1 small.1 n f e
+body_from scope spare (plain k (said.GlobalVar _ _) ∷ items) each small n f e = body_from scope spare items each.1 small.1 n f e
+body_from scope spare (plain k (said.Label _) ∷ items) each small n f e = body_from scope spare items each.1 small.1 n f e
+body_from scope spare (plain k (said.Define _) ∷ items) each small n f e = body_from scope spare items each.1 small.1 n f e
+body_from scope spare (plain k (said.Inst _ _) ∷ items) each small n f e = body_from scope spare items each.1 small.1 n f e
+body_from scope spare (plain k (said.Term _) ∷ items) each small n f e = body_from scope spare items each.1 small.1 n f e
 
 abbrev bodies_of : ModuleState → List (Option FuncState)
 bodies_of m = m.bodies
 
-pub open_of : (draft : List (ℕ × Line)) (m : ModuleState) → IsAccepted draft m → AreOpen m
-open_of draft m a n f e =
+pub open_of : (draft : List (ℕ × Line)) (m : ModuleState) → AreSmall draft → IsAccepted draft m → AreOpen m
+open_of draft m small a n f e =
     let whole = a.named.whole in
     let scope = scope_of whole.meaning.effects whole.meaning.keeps a.items in
-    let b = body_from scope whole.spare a.items a.named.shape.each n f (ap (λ k. slice_get (bodies_of k) n) (sym whole.module_is) ∙ e) in
+    let b = body_from scope whole.spare a.items a.named.shape.each (subst AreSmall a.named.shape.lines small) n f (ap (λ k. slice_get (bodies_of k) n) (sym whole.module_is) ∙ e) in
     let closed : IsClosed (graph_of f.blocks) =
     subst (λ (g : FuncState). IsClosed (graph_of g.blocks)) b.func_is (func_closed (scope b.lines) (whole.spare b.lines.head.name) b.lines refl b.some) in
-    (closed, reducible_by (graph_of f.blocks) closed (λ no. a.reducible n (record { f = f; body = e; irreducible = no })))
+    let near : HasNearSteps f = subst HasNearSteps b.func_is (func_near (scope b.lines) (whole.spare b.lines.head.name) b.lines b.small) in
+    (closed, reducible_by (graph_of f.blocks) closed (λ no. a.reducible n (record { f = f; body = e; irreducible = no })), near)

@@ -1,5 +1,5 @@
 -- How much room the functions of a module have changes neither its texts nor its faults.
-use Rattle.std.proofs.Common.{◌≡◌, ℕ, zero, suc, Bool, true, false, is_some, List, [], ◌∷◌, ◌++◌, Option, Some, None, refl, ap, ◌∙◌, slice_get}
+use Rattle.std.proofs.Common.{◌≡◌, ◌⊎◌, inl, inr, ℕ, zero, suc, Bool, true, false, is_some, List, [], ◌∷◌, ◌++◌, Option, Some, None, refl, ap, ◌∙◌, slice_get}
 use Rattle.std.specs.List.{flat_map}
 use Rattle.ms_grammar.specs.declared.line.Line.TheVariants as said
 use Rattle.ms_ir.specs.declared.inst.Effects.{Effects}
@@ -18,7 +18,12 @@ use Rattle.ms_print.specs.Text.{body_text, item_text, has_body, gap, items_text,
 use Rattle.ms_resolve.specs.Shape.{InstLine, BlockLines, FuncLines, ItemLines, plain, body}
 use Rattle.ms_resolve.specs.Scope.{Scope, func_of}
 use Rattle.ms_resolve.specs.Module.{scope_of, bodies_in, module_of, names_of}
-use Rattle.ms_session.specs.Annotated.{IsNearest}
+use Rattle.ms_paths.specs.Flow.{Event}
+use Rattle.ms_ir.specs.declared.inst.Kind.{Kind}
+use Rattle.ms_ir.specs.declared.inst.Kind.TheVariants.{Def, Reads, Neither}
+use Rattle.ms_ir.specs.Inst.{kind_of_inst}
+use Rattle.ms_walk.proofs.Spare.{clobber_moved, read_moved}
+use Rattle.ms_session.specs.Annotated.{IsUse, IsInstLine, IsAnnotated}
 use Rattle.ms_valid.specs.Faults.{body_there, bodies_there, IsBody, HasInst, HasTerm, CallsOtherwise, ReturnsOtherwise, HasTypeFaultIn, operand, func_operand, global_called, call, term_operand, func_returned, returned, HasEdgeFaultIn, branch, phi, HasOrderFaultIn, HasTypeFault, HasEdgeFault, HasOrderFault, IsIrreducible}
 use Rattle.ms_valid.specs.Faults as fault
 use Rattle.ms_output.specs.Forms.{IsForm, AreForms}
@@ -83,20 +88,31 @@ same_there scope p q (plain k (said.Term _) ∷ items) n f e = same_there scope 
 
 -- ---- texts
 
-nearest_same : (names : NamesState) (s : Scope) (a b : ℕ) (lines : FuncLines) (t : List ℕ) → IsNearest names (func_of s a lines) t → IsNearest names (func_of s b lines) t
-nearest_same names s a b lines t p = record {
+use_same : (f : FuncState) (r b k : ℕ) (x : Placed) (e : Event) → IsUse f b k x e → IsUse (with_room r f) b k x e
+use_same f r b k x e (inl u) = inl (u.0, read_moved f r (record { 0 = x.number }) x.inst u.0 u.1, clobber_moved f r b k u.0 e u.2)
+use_same f r b k x e (inr u) = inr ((λ loc reads. u.0 loc (read_moved (with_room r f) f.spare (record { 0 = x.number }) x.inst loc reads)), u.1)
+
+line_same : (f : FuncState) (r : ℕ) (last : ℕ → ℕ → Event) (all : List Event) (b k : ℕ) (x : Placed) (kind : Kind) (line : List ℕ)
+    → IsInstLine f last all b k x kind line → IsInstLine (with_room r f) last all b k x kind line
+line_same f r last all b k x Def line h = h
+line_same f r last all b k x Reads line h = (h.0, use_same f r b k x h.0 h.1, h.2)
+line_same f r last all b k x Neither line h = h
+
+annotated_same : (names : NamesState) (s : Scope) (a b : ℕ) (lines : FuncLines) (t : List ℕ) → IsAnnotated names (func_of s a lines) t → IsAnnotated names (func_of s b lines) t
+annotated_same names s a b lines t p = record {
   reached = p.reached;
   phis = p.phis;
   last = p.last;
   lasts = p.lasts;
   notes = p.notes;
   at_blocks = p.at_blocks;
-  at_insts = p.at_insts;
+  at_insts = λ c k x on at. line_same (func_of s a lines) b p.last _ c k x (kind_of_inst x.inst) _ (p.at_insts c k x on at);
+  elsewhere = p.elsewhere;
   text_is = p.text_is;
 }
 
 form_same : (names : NamesState) (s : Scope) (a b : ℕ) (lines : FuncLines) (t : List ℕ) → IsForm names (func_of s a lines) t → IsForm names (func_of s b lines) t
-form_same names s a b lines t p = record { annotated = p.annotated; nearest = nearest_same names s a b lines p.annotated p.nearest; form_is = p.form_is }
+form_same names s a b lines t p = record { annotated = p.annotated; says = annotated_same names s a b lines p.annotated p.says; form_is = p.form_is }
 
 abbrev FormsOf : NamesState → ℕ → (FuncLines → Scope) → Room → List ItemLines → List ℕ → Type 0
 FormsOf names prints scope room items t = AreForms names prints (flat_map body_there (bodies scope room items)) t

@@ -6,7 +6,11 @@ use Rattle.ms_ir.specs.Graph.{graph_of}
 use Rattle.ms_ir.specs.Module.{ModuleState}
 use Rattle.ms_ir.specs.Symbols.{NamesState}
 use Rattle.ms_print.specs.Text.{module_text}
-use Rattle.ms_session.specs.Annotated.{IsNearest}
+use Rattle.ms_session.specs.Annotated.{IsAnnotated}
+use Rattle.ms_alias.specs.Building.{HasNearSteps}
+use Rattle.ms_grammar.specs.Kept.{Each}
+use Rattle.ms_grammar.specs.Limits.{IsSmall}
+use Rattle.ms_grammar.specs.declared.line.Line.{Line}
 use Rattle.ms_valid.specs.Faults.{bodies_there}
 use Rattle.ms_output.specs.declared.wanted.Wanted.{Wanted}
 
@@ -23,7 +27,7 @@ form_text name annotated = header_part ++ name ++ line_feed ++ annotated ++ line
 -- this is the printed form of a function
 pub record IsForm (names : NamesState) (f : FuncState) (form : List ℕ) : Type 0 where
   pub annotated : List ℕ
-  pub nearest : IsNearest names f annotated
+  pub says : IsAnnotated names f annotated
   pub form_is : form ≡ form_text f.name annotated
 
 -- a text so many times
@@ -45,4 +49,11 @@ pub record IsWrittenOf (wanted : Wanted) (m : ModuleState) (text : List ℕ) : T
 
 -- each function with a body may be opened
 abbrev pub AreOpen : ModuleState → Type 0
-AreOpen m = (n : ℕ) (f : FuncState) → slice_get m.bodies n ≡ Some (Some f) → IsClosed (graph_of f.blocks) × IsReducible (graph_of f.blocks)
+AreOpen m = (n : ℕ) (f : FuncState) → slice_get m.bodies n ≡ Some (Some f) → IsClosed (graph_of f.blocks) × IsReducible (graph_of f.blocks) × HasNearSteps f
+
+-- each instruction of a draft is within its limits
+abbrev pub IsSmallAt : ℕ × Line → Type 0
+IsSmallAt line = IsSmall line.1
+
+abbrev pub AreSmall : List (ℕ × Line) → Type 0
+AreSmall draft = Each IsSmallAt draft

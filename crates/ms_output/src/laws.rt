@@ -11,5 +11,5 @@ pub fn one_output()
     ensures apart { (wanted : Wanted) (bytes t : List ℕ) (r : Refusal) → IsOutput wanted bytes t → IsRefusal bytes r → ⊥ }
 {
     ms_read::one_draft();
-    ms_session::one_nearest();
+    ms_session::one_annotated();
 }

@@ -1,6 +1,7 @@
 // From the bytes of a file to what is written for them.
 ghost use Rattle.std.specs.Prelude.{◌≡◌, ◌≤◌, List, [], length};
 ghost use Rattle.ms_resolve.specs.Shape.{ItemLines, IsShape};
+ghost use Rattle.ms_output.specs.Forms.{AreSmall};
 ghost use Rattle.ms_output.specs.Output.{limit, refusal_at, read_refusal, valid_refusal};
 ghost use Rattle.ms_output.specs.Told.{Renders, RendersDraft, IsTold, IsToldOf};
 
@@ -67,7 +68,8 @@ fn unaccepted(alloc: Global, draft: &Draft, fault: ValidFault) -> Unwritten
 
 // What is written for a draft.
 fn render_draft(alloc: Global, wanted: Wanted, draft: &Draft) -> Result<Text, Unwritten>
-    requires { (items : List ItemLines) × IsShape draft.now items }
+    requires shape { (items : List ItemLines) × IsShape draft.now items }
+    requires small { AreSmall draft.now }
     ensures { RendersDraft wanted draft.now result }
 {
     let mut module = match accept(alloc, draft) {

@@ -70,7 +70,7 @@ if.end:
   %0 = load i8, ptr %p1
 ; 6 = MemoryDef(5)
   store i8 2, ptr %p2
-; MemoryUse(6)
+; MemoryUse(1)
   %1 = load i8, ptr %p3
   br label %while.cond
 }
@@ -262,7 +262,7 @@ define i32 @a() {
   store i32 5, ptr %x, align 4
 ; 2 = MemoryDef(1)
   call void @hid()
-; MemoryUse(2)
+; MemoryUse(1)
   %r = call i32 @look(ptr %x)
   %s = call i32 @pure(i32 %r)
 ; MemoryUse(2)
@@ -275,5 +275,195 @@ define i32 @a() {
 #[test]
 fn attributes(rt: HostRuntime) -> Result<(), Fail> {
     expect_form(&rt, rt.alloc(), ATTRIBUTES, ATTRIBUTES_FORM)?;
+    Ok(())
+}
+
+const CHANGING: &[u8] = b"define i8 @v(ptr %s, i1 %c) {
+entry:
+  br label %h
+
+h:
+  %p = phi ptr [ %s, %entry ], [ %q, %h ]
+  %q = getelementptr i8, ptr %p, i64 4
+  store i8 1, ptr %q, align 1
+  %x = load i8, ptr %p, align 1
+  br i1 %c, label %h, label %e
+
+e:
+  ret i8 %x
+}
+";
+
+const CHANGING_FORM: &[u8] = b"MemorySSA for function: v
+define i8 @v(ptr %s, i1 %c) {
+entry:
+  br label %h
+
+h:
+; 1 = MemoryPhi({entry,liveOnEntry},{h,2})
+  %p = phi ptr [ %s, %entry ], [ %q, %h ]
+  %q = getelementptr i8, ptr %p, i64 4
+; 2 = MemoryDef(1)
+  store i8 1, ptr %q, align 1
+; MemoryUse(2)
+  %x = load i8, ptr %p, align 1
+  br i1 %c, label %h, label %e
+
+e:
+  ret i8 %x
+}
+
+";
+
+#[test]
+fn pointer_that_changes_per_turn(rt: HostRuntime) -> Result<(), Fail> {
+    expect_form(&rt, rt.alloc(), CHANGING, CHANGING_FORM)?;
+    Ok(())
+}
+
+const ARM: &[u8] = b"define void @d(i1 %c) {
+entry:
+  %a = alloca i32, align 4
+  %b = alloca i32, align 4
+  store i32 1, ptr %a, align 4
+  store i32 2, ptr %b, align 4
+  br i1 %c, label %l, label %r
+
+l:
+  br label %j
+
+r:
+  br label %j
+
+j:
+  %x = load i32, ptr %a, align 4
+  %y = load i32, ptr %b, align 4
+  ret void
+}
+";
+
+const ARM_FORM: &[u8] = b"MemorySSA for function: d
+define void @d(i1 %c) {
+entry:
+  %a = alloca i32, align 4
+  %b = alloca i32, align 4
+; 1 = MemoryDef(liveOnEntry)
+  store i32 1, ptr %a, align 4
+; 2 = MemoryDef(1)
+  store i32 2, ptr %b, align 4
+  br i1 %c, label %l, label %r
+
+l:
+  br label %j
+
+r:
+  br label %j
+
+j:
+; MemoryUse(1)
+  %x = load i32, ptr %a, align 4
+; MemoryUse(2)
+  %y = load i32, ptr %b, align 4
+  ret void
+}
+
+";
+
+#[test]
+fn store_inserted_on_one_arm_first_print(rt: HostRuntime) -> Result<(), Fail> {
+    expect_form(&rt, rt.alloc(), ARM, ARM_FORM)?;
+    Ok(())
+}
+
+const CAPTURE: &[u8] = b"declare void @use(ptr)
+declare void @tick()
+
+define void @c() {
+  %a = alloca i32, align 4
+  %b = alloca i32, align 4
+  store i32 1, ptr %a, align 4
+  store i32 2, ptr %b, align 4
+  call void @tick()
+  %x = load i32, ptr %a, align 4
+  %y = load i32, ptr %b, align 4
+  ret void
+}
+";
+
+const CAPTURE_FORM: &[u8] = b"MemorySSA for function: c
+define void @c() {
+  %a = alloca i32, align 4
+  %b = alloca i32, align 4
+; 1 = MemoryDef(liveOnEntry)
+  store i32 1, ptr %a, align 4
+; 2 = MemoryDef(1)
+  store i32 2, ptr %b, align 4
+; 3 = MemoryDef(2)
+  call void @tick()
+; MemoryUse(1)
+  %x = load i32, ptr %a, align 4
+; MemoryUse(2)
+  %y = load i32, ptr %b, align 4
+  ret void
+}
+
+";
+
+#[test]
+fn capture_by_an_inserted_call_first_print(rt: HostRuntime) -> Result<(), Fail> {
+    expect_form(&rt, rt.alloc(), CAPTURE, CAPTURE_FORM)?;
+    Ok(())
+}
+
+const SELECTED: &[u8] = b"define void @w(i1 %c, i1 %d) {
+entry:
+  %a = alloca [8 x i8], align 1
+  %b = alloca [8 x i8], align 1
+  store i8 1, ptr %a, align 1
+  br label %h
+
+h:
+  %p = select i1 %c, ptr %a, ptr %b
+  %q = getelementptr i8, ptr %p, i64 4
+  store i8 2, ptr %p, align 1
+  store i8 3, ptr %q, align 1
+  %x = load i8, ptr %p, align 1
+  br i1 %d, label %h, label %e
+
+e:
+  ret void
+}
+";
+
+const SELECTED_FORM: &[u8] = b"MemorySSA for function: w
+define void @w(i1 %c, i1 %d) {
+entry:
+  %a = alloca [8 x i8], align 1
+  %b = alloca [8 x i8], align 1
+; 1 = MemoryDef(liveOnEntry)
+  store i8 1, ptr %a, align 1
+  br label %h
+
+h:
+; 2 = MemoryPhi({entry,1},{h,4})
+  %p = select i1 %c, ptr %a, ptr %b
+  %q = getelementptr i8, ptr %p, i64 4
+; 3 = MemoryDef(2)
+  store i8 2, ptr %p, align 1
+; 4 = MemoryDef(3)
+  store i8 3, ptr %q, align 1
+; MemoryUse(4)
+  %x = load i8, ptr %p, align 1
+  br i1 %d, label %h, label %e
+
+e:
+  ret void
+}
+
+";
+
+#[test]
+fn select_in_a_loop_unlinked_first_print(rt: HostRuntime) -> Result<(), Fail> {
+    expect_form(&rt, rt.alloc(), SELECTED, SELECTED_FORM)?;
     Ok(())
 }

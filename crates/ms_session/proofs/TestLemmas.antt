@@ -1,9 +1,14 @@
 -- Graphs of functions that tests make.
-use Rattle.std.proofs.Common.{◌≡◌, ◌<◌, ℕ, suc, zero, List, [], ◌∷◌, ◌++◌, length, set, get_or, refl, sym, ap, ◌∙◌, subst, arith}
+use Rattle.std.proofs.Common.{◌≡◌, ◌<◌, Bool, true, false, Option, Some, None, drop, take, if◌then◌else◌, ℕ, suc, zero, List, [], ◌∷◌, ◌++◌, length, set, get_or, refl, sym, ap, ◌∙◌, subst, arith}
 use Rattle.std.specs.Prelude.{Contains, insert}
 use Rattle.ms_paths.specs.Flow.{Block as Run, block_at, IsClosed}
 use Rattle.ms_ir.specs.Func.{Placed, Block, no_block, with_insts, put_at}
 use Rattle.ms_ir.specs.Graph.{graph_of, successors}
+use Rattle.ms_ir.specs.declared.names.LocalNo.{LocalNo}
+use Rattle.ms_ir.specs.Func.{FuncState}
+use Rattle.ms_alias.specs.Roots.{Maker, step_in, step_by_maker, makes, maker_in, maker_from, or_else, Step}
+use Rattle.ms_alias.specs.Building.{HasNearSteps}
+use Rattle.ms_session.specs.Shown.{NoSteps, MakesNoSteps}
 
 next_at : (blocks : List Block) (a : ℕ) → (block_at (graph_of blocks) a).next ≡ successors (get_or blocks a no_block).term
 next_at [] a = refl
@@ -50,3 +55,36 @@ loop_closed = record { has_entry = omega arith; edges_in = λ a b e. edge a b e.
     edge (suc zero) b (suc (suc k)) lt e = absurd (omega arith)
     edge (suc (suc zero)) b k lt e = absurd (omega arith)
     edge (suc (suc (suc a))) b k lt e = absurd (omega arith)
+
+-- ---- functions without getelementptrs
+
+no_insert : (place : ℕ) (xs : List Placed) (x : Placed) → step_in x.inst ≡ None → NoSteps xs → NoSteps (insert xs place x)
+no_insert zero xs x e h = (e, h)
+no_insert (suc place) [] x e h = (e, tt)
+no_insert (suc place) (y ∷ xs) x e h = (h.0, no_insert place xs x e h.1)
+
+pub no_put : (blocks : List Block) (b place : ℕ) (x : Placed) → step_in x.inst ≡ None → MakesNoSteps blocks → MakesNoSteps (put_at blocks b place x)
+no_put [] b place x e h = tt
+no_put (y ∷ blocks) zero place x e h = (no_insert place y.insts x e h.0, h.1)
+no_put (y ∷ blocks) (suc b) place x e h = (h.0, no_put blocks b place x e h.1)
+
+none_in : (b : ℕ) (xs : List Placed) (l : LocalNo) → NoSteps xs → step_by_maker (maker_in b xs l) ≡ None
+none_in b [] l h = refl
+none_in b (x ∷ xs) l h = by (makes l x) (none_in b xs l h.1)
+  where
+    by : (t : Bool) → step_by_maker (maker_in b xs l) ≡ None → step_by_maker (if t then Some (record { block = b; inst = x.inst }) else maker_in b xs l) ≡ None
+    by true rest = h.0
+    by false rest = rest
+
+none_else : (a c : Option Maker) → step_by_maker a ≡ None → step_by_maker c ≡ None → step_by_maker (or_else a c) ≡ None
+none_else None c p q = q
+none_else (Some m) c p q = p
+
+none_from : (k : ℕ) (blocks : List Block) (l : LocalNo) → MakesNoSteps blocks → step_by_maker (maker_from k blocks l) ≡ None
+none_from k [] l h = refl
+none_from k (y ∷ blocks) l h = none_else (maker_in k y.insts l) (maker_from (suc k) blocks l) (none_in k y.insts l h.0) (none_from (suc k) blocks l h.1)
+
+pub none_near : (f : FuncState) → MakesNoSteps f.blocks → HasNearSteps f
+none_near f h l s e =
+    let clash : None ≡ Some s = sym (none_from 0 f.blocks l h) ∙ e in
+    absurd (cc)

@@ -1,16 +1,19 @@
--- The text of a function with its MemorySSA: each access of memory names the last one before it on every path.
+-- The text of a function with its MemorySSA: each Def and phi names the last accesses before it on every path, each use its clobber.
 -- The forms of the annotations are those of LLVM's MemorySSA document.
-use Rattle.std.specs.Prelude.{◌≡◌, ◌<◌, ℕ, suc, Bool, true, false, if◌then◌else◌, List, [], ◌∷◌, ◌++◌, length, nat_eq, codes, decimal, Some, slice_get, slice_index_or}
-use Rattle.ms_paths.specs.Flow.{Event, Of, Phi, Entry}
+use Rattle.std.specs.Prelude.{◌≡◌, ◌<◌, ◌⊎◌, ◌↔◌, ◌+◌, IsTrue, ℕ, suc, Bool, true, false, if◌then◌else◌, List, [], ◌∷◌, ◌++◌, length, nat_eq, codes, decimal, Some, slice_get, slice_index_or}
+use Rattle.ms_paths.specs.Flow.{Event, Of, Phi, Entry, IsReached}
 use Rattle.ms_ir.specs.declared.names.Name.{Name}
 use Rattle.ms_ir.specs.declared.names.Name.TheVariants.{Word, Number, Absent}
 use Rattle.ms_ir.specs.declared.inst.Kind.{Kind}
 use Rattle.ms_ir.specs.declared.inst.Kind.TheVariants.{Def, Reads, Neither}
 use Rattle.ms_ir.specs.Inst.{kind_of_inst}
 use Rattle.ms_ir.specs.Func.{Placed, Block, FuncState, insts_at}
-use Rattle.ms_ir.specs.Graph.{successors, is_def}
+use Rattle.ms_ir.specs.Graph.{graph_of, successors, is_def}
 use Rattle.ms_ir.specs.Lasts.{IsLasts}
 use Rattle.ms_ir.specs.Symbols.{NamesState}
+use Rattle.ms_alias.specs.declared.loc.Loc.{Loc}
+use Rattle.ms_alias.specs.Reaches.{IsLocRead}
+use Rattle.ms_walk.specs.Clobber.{IsClobberAt}
 use Rattle.ms_print.specs.declared.notes.Notes.{Notes}
 use Rattle.ms_print.specs.Numbering.{labels_of}
 use Rattle.ms_print.specs.Text.{note_at, func_text}
@@ -41,14 +44,25 @@ access_text all Entry = codes "liveOnEntry"
 access_text all (Of i) = decimal (number_in all (Of i))
 access_text all (Phi b) = decimal (number_in all (Phi b))
 
--- the annotation of an instruction, where this access is the last before it
+-- the annotation of an instruction that names this access
 abbrev pub note_of : List Event → Event → ℕ → Kind → List ℕ
 note_of all before i Def = codes "; " ++ access_text all (Of i) ++ codes " = MemoryDef(" ++ access_text all before ++ codes ")\n"
 note_of all before i Reads = codes "; MemoryUse(" ++ access_text all before ++ codes ")\n"
 note_of all before i Neither = []
 
-abbrev pub inst_note : (ℕ → Bool) → (ℕ → ℕ → Event) → List Event → ℕ → ℕ → Placed → List ℕ
-inst_note reached last all b place x = if reached b then note_of all (last b place) x.number (kind_of_inst x.inst) else []
+-- the instruction reads no location: it loads from a number
+abbrev pub ReadsNone : FuncState → Placed → Type 0
+ReadsNone f x = (loc : Loc) → IsLocRead f (record { 0 = x.number }) x.inst loc → ⊥
+
+-- the access that a use at place k of block b names: the clobber of what it reads, the entry if it reads no location
+abbrev pub IsUse : FuncState → ℕ → ℕ → Placed → Event → Type 0
+IsUse f b k x e = ((loc : Loc) × IsLocRead f (record { 0 = x.number }) x.inst loc × IsClobberAt f b k loc e) ⊎ (ReadsNone f x × (e ≡ Entry))
+
+-- the line before an instruction of a reached block: a Def names the last access before it, a use the clobber of what it reads
+abbrev pub IsInstLine : FuncState → (ℕ → ℕ → Event) → List Event → ℕ → ℕ → Placed → Kind → List ℕ → Type 0
+IsInstLine f last all b k x Def line = line ≡ note_of all (last b k) x.number Def
+IsInstLine f last all b k x Reads line = (e : Event) × IsUse f b k x e × (line ≡ note_of all e x.number Reads)
+IsInstLine f last all b k x Neither line = line ≡ []
 
 -- a block in an entry: its word, or a percent sign and its number
 abbrev pub block_in_entry : Name → List ℕ
@@ -84,14 +98,37 @@ phi_note f reached phis last all b =
     (if phis b then codes "; " ++ access_text all (Phi b) ++ codes " = MemoryPhi(" ++ with_commas (entries_from (labels_of f) reached last all b 0 f.blocks) ++ codes ")\n" else [])
     else []
 
--- This text is the function's annotated text, in which a use names the last access before it.
-pub record IsNearest (names : NamesState) (f : FuncState) (text : List ℕ) : Type 0 where
+-- This text is the function's annotated text: a Def names the last access before it, a phi the last ones at the ends of the
+-- blocks before, a use the clobber of what it reads.
+pub record IsAnnotated (names : NamesState) (f : FuncState) (text : List ℕ) : Type 0 where
   pub reached : ℕ → Bool
   pub phis : ℕ → Bool
   pub last : ℕ → ℕ → Event
   pub lasts : IsLasts f.blocks reached phis last
   pub notes : Notes
   pub at_blocks : (b : ℕ) → b < length f.blocks → note_at notes.phis b ≡ phi_note f reached phis last (numbered_from reached phis 0 f.blocks) b
-  pub at_insts : (b k : ℕ) (x : Placed) → slice_get (insts_at f.blocks b) k ≡ Some x
-      → note_at notes.insts x.number ≡ inst_note reached last (numbered_from reached phis 0 f.blocks) b k x
+  pub at_insts : (b k : ℕ) (x : Placed) → reached b ≡ true → slice_get (insts_at f.blocks b) k ≡ Some x
+      → IsInstLine f last (numbered_from reached phis 0 f.blocks) b k x (kind_of_inst x.inst) (note_at notes.insts x.number)
+  pub elsewhere : (b k : ℕ) (x : Placed) → reached b ≡ false → slice_get (insts_at f.blocks b) k ≡ Some x → note_at notes.insts x.number ≡ []
   pub text_is : text ≡ func_text names f notes
+
+abbrev pub is_use : Kind → Bool
+is_use Reads = true
+is_use Def = false
+is_use Neither = false
+
+-- how many instructions are uses
+abbrev pub uses_in : List Placed → ℕ
+uses_in [] = 0
+uses_in (x ∷ xs) = (if is_use (kind_of_inst x.inst) then 1 else 0) + uses_in xs
+
+-- how many instructions of reached blocks are uses; the first block has number b
+abbrev pub uses_from : (ℕ → Bool) → ℕ → List Block → ℕ
+uses_from reached b [] = 0
+uses_from reached b (x ∷ xs) = (if reached b then uses_in x.insts else 0) + uses_from reached (suc b) xs
+
+-- the function has so many uses in reached blocks
+pub record HasUses (f : FuncState) (count : ℕ) : Type 0 where
+  pub reached : ℕ → Bool
+  pub reached_are : (b : ℕ) → IsTrue (reached b) ↔ IsReached (graph_of f.blocks) b
+  pub count_is : count ≡ uses_from reached 0 f.blocks

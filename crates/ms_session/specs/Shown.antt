@@ -5,16 +5,18 @@ use Rattle.ms_ir.specs.declared.names.Name.{Name}
 use Rattle.ms_ir.specs.declared.names.Name.TheVariants.{Absent}
 use Rattle.ms_ir.specs.declared.names.InstNo.{InstNo}
 use Rattle.ms_ir.specs.declared.inst.Kind.{Kind}
-use Rattle.ms_ir.specs.Func.{Placed, Block, insts_at}
+use Rattle.ms_ir.specs.declared.inst.Kind.TheVariants.{Def, Reads, Neither}
+use Rattle.ms_ir.specs.Func.{Placed, Block, FuncState, insts_at}
 use Rattle.ms_flow.specs.declared.sources.Source.{Source}
 use Rattle.ms_flow.specs.Flow.{order_of, sources_of}
 use Rattle.ms_form.specs.declared.access.Access.{Access}
 use Rattle.ms_form.specs.declared.access.Access.TheVariants.{Entry, Of, Phi}
 use Rattle.ms_form.specs.Form.{FormState}
 use Rattle.ms_build.specs.Accesses.{event_of, has_phi, operand_at}
+use Rattle.ms_alias.specs.Roots.{step_in}
 use Rattle.ms_print.specs.declared.notes.Note.{Note}
 use Rattle.ms_print.specs.Text.{ended}
-use Rattle.ms_session.specs.Annotated.{def_events, numbered_from, same_event, number_in, access_text, note_of, block_in_entry, with_commas, behind_commas}
+use Rattle.ms_session.specs.Annotated.{def_events, numbered_from, same_event, number_in, access_text, note_of, IsUse, block_in_entry, with_commas, behind_commas}
 
 -- the accesses that have numbers so far, and for how many blocks and instructions there are places
 pub record NumbersState : Type 0 where
@@ -62,10 +64,12 @@ abbrev pub line_text : Option (List ℕ) → List ℕ
 line_text None = []
 line_text (Some line) = ended line
 
--- the annotation of an instruction that names this access
-abbrev pub named_note : List Event → Option Access → ℕ → Kind → List ℕ
-named_note all None i kind = []
-named_note all (Some a) i kind = note_of all (event_of a) i kind
+-- the line of an instruction, where the form names this access before it
+abbrev pub IsShownLine : FuncState → List Event → ℕ → ℕ → Placed → Option Access → Kind → List ℕ → Type 0
+IsShownLine f all b k x None kind line = line ≡ []
+IsShownLine f all b k x (Some a) Def line = line ≡ note_of all (event_of a) x.number Def
+IsShownLine f all b k x (Some a) Reads line = (e : Event) × IsUse f b k x e × (line ≡ note_of all e x.number Reads)
+IsShownLine f all b k x (Some a) Neither line = line ≡ []
 
 -- the entry of a phi for an edge from a block
 abbrev pub entry_text : List Name → List Event → ℕ → Event → List ℕ
@@ -105,3 +109,12 @@ with_line notes at (Some line) = notes ++ (record { at = at; line = line }) ∷ 
 -- the number at a place of a block is this instruction's
 abbrev pub IsCursor : List Block → ℕ → ℕ → Option InstNo → Type 0
 IsCursor blocks b k at = option_map (λ i. i.0) at ≡ option_map (λ x. x.number) (slice_get (insts_at blocks b) k)
+
+-- no instruction is a getelementptr of a pointer
+abbrev pub NoSteps : List Placed → Type 0
+NoSteps [] = Unit {0}
+NoSteps (x ∷ xs) = (step_in x.inst ≡ None) × NoSteps xs
+
+abbrev pub MakesNoSteps : List Block → Type 0
+MakesNoSteps [] = Unit {0}
+MakesNoSteps (b ∷ bs) = NoSteps b.insts × MakesNoSteps bs

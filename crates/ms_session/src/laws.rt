@@ -2,11 +2,11 @@
 ghost use Rattle.std.specs.Prelude.{◌≡◌, List, ℕ};
 ghost use Rattle.ms_ir.specs.Func.{FuncState};
 ghost use Rattle.ms_ir.specs.Symbols.{NamesState};
-ghost use Rattle.ms_session.specs.Annotated.{IsNearest};
+ghost use Rattle.ms_session.specs.Annotated.{IsAnnotated};
 
 /// A function has one annotated text at most.
-pub fn one_nearest()
-    ensures { (names : NamesState) (f : FuncState) (t u : List ℕ) → IsNearest names f t → IsNearest names f u → t ≡ u }
+pub fn one_annotated()
+    ensures { (names : NamesState) (f : FuncState) (t u : List ℕ) → IsAnnotated names f t → IsAnnotated names f u → t ≡ u }
 {
     ms_paths::one_answer();
 }

@@ -1,18 +1,24 @@
 // The lines of annotations.
-ghost use Rattle.std.specs.Prelude.{◌≡◌, ◌<◌, ◌++◌, [], ℕ, length, drop, decimal, Some, slice_index_or, IfOk, OnOk};
-ghost use Rattle.ms_paths.specs.Flow.{IsReached};
+ghost use Rattle.std.specs.Prelude.{◌≡◌, ◌<◌, ◌++◌, [], ℕ, length, drop, decimal, Some, slice_index_or, IfOk, IfSome, MatchOption, OnOk};
+ghost use Rattle.ms_paths.specs.Flow.{IsReached, IsClosed, IsReducible};
 ghost use Rattle.ms_ir.specs.declared.names.Name.TheVariants.{Absent};
-ghost use Rattle.ms_ir.specs.Func.{Placed, IsAt};
+ghost use Rattle.ms_ir.specs.Func.{Placed, IsAt, IsNowhere};
+ghost use Rattle.ms_ir.specs.Graph.{graph_of};
 ghost use Rattle.ms_ir.specs.Inst.{kind_of_inst};
 ghost use Rattle.ms_ir.specs.declared.inst.Kind.TheVariants.{Def, Reads};
 ghost use Rattle.ms_flow.specs.Flow.{sources_of};
+ghost use Rattle.ms_flow.specs.Table.{edges_of};
+ghost use Rattle.ms_build.specs.Built.{IsFormOf};
+ghost use Rattle.ms_alias.specs.Tables.{IsAliasOf};
 ghost use Rattle.ms_build.specs.Accesses.{event_of, operand_at, defining_at};
 ghost use Rattle.ms_print.specs.Text.{ended};
 ghost use Rattle.ms_session.specs.Annotated.{access_text, note_of, block_in_entry, with_commas};
-ghost use Rattle.ms_session.specs.Shown.{line_text, named_note, operand_text, operand_texts, comma_text, members_text, phi_text, shown_phi};
+ghost use Rattle.ms_session.specs.Shown.{line_text, IsShownLine, operand_text, operand_texts, comma_text, members_text, phi_text, shown_phi};
 
 use crate::numbers::{Numbers, is_reached};
+use crate::uses::named_by_use;
 use itoa::Buffer;
+use ms_alias::Alias;
 use ms_flow::Flow;
 use ms_form::{Access, Form};
 use ms_ir::{BlockNo, Func, InstNo, Kind, Name, NoMemory, Steps, Text, kind_of};
@@ -39,6 +45,18 @@ fn push_access(out: &mut Vec<u8>, numbers: &Numbers, access: Access) -> Result<(
     }
 }
 
+// What an instruction is to memory, if it is there.
+fn kind_at(func: &Func, i: InstNo) -> Option<Kind>
+    ensures found { MatchOption result (IsNowhere func.now.blocks i.0)
+        (λ kind. (b : ℕ) × (place : ℕ) × (x : Placed) × IsAt func.now.blocks i.0 b place x) }
+    ensures each { IfSome result (λ kind. (b place : ℕ) (x : Placed) → IsAt func.now.blocks i.0 b place x → kind_of_inst x.inst ≡ kind) }
+{
+    match func.inst(i) {
+        Some(inst) => Some(kind_of(inst)),
+        None => None,
+    }
+}
+
 fn def_line(alloc: Global, numbers: &Numbers, i: InstNo, before: Access) -> Result<Text, NoMemory>
     ensures { IfOk result (λ line. ended line ≡ note_of numbers.now.all (event_of before) i.0 Def) }
 {
@@ -61,40 +79,38 @@ fn use_line(alloc: Global, numbers: &Numbers, before: Access) -> Result<Text, No
     Ok(Text::from_vec(out))
 }
 
-// The line of an instruction of this kind, which names this access.
-fn named_line(
-    alloc: Global,
-    numbers: &Numbers,
-    i: InstNo,
-    before: Access,
-    kind: Kind,
-) -> Result<Option<Text>, NoMemory>
-    ensures { IfOk result (λ line. line_text line ≡ note_of numbers.now.all (event_of before) i.0 kind) }
-{
-    match kind {
-        Kind::Def => Ok(Some(def_line(alloc, numbers, i, before)?)),
-        Kind::Reads => Ok(Some(use_line(alloc, numbers, before)?)),
-        Kind::Neither => Ok(None),
-    }
-}
-
 /// The line of an instruction, if it names an access.
 pub fn inst_line(
     alloc: Global,
     func: &Func,
+    flow: &Flow,
     form: &Form,
+    alias: &Alias,
     numbers: &Numbers,
     i: InstNo,
 ) -> Result<Option<Text>, NoMemory>
+    requires graph { flow.now.graph ≡ edges_of func.now.blocks }
+    requires closed { IsClosed (graph_of func.now.blocks) }
+    requires reducible { IsReducible flow.now.graph }
+    requires form { IsFormOf func.now form.now }
+    requires alias { IsAliasOf func.now alias.now }
     ensures { IfOk result (λ line. (b place : ℕ) (x : Placed) → IsAt func.now.blocks i.0 b place x →
-        line_text line ≡ named_note numbers.now.all (defining_at form.now i.0) i.0 (kind_of_inst x.inst)) }
+        IsShownLine func.now numbers.now.all b place x (defining_at form.now i.0) (kind_of_inst x.inst) (line_text line)) }
 {
-    let before = match form.defining(i) {
-        Some(before) => before,
+    func.numbered();
+    ms_flow::same_paths();
+    ms_flow::order_told();
+    let last = match form.defining(i) {
+        Some(last) => last,
         None => return Ok(None),
     };
-    match func.inst(i) {
-        Some(inst) => Ok(named_line(alloc, numbers, i, before, kind_of(inst))?),
+    match kind_at(func, i) {
+        Some(Kind::Def) => Ok(Some(def_line(alloc, numbers, i, last)?)),
+        Some(Kind::Reads) => {
+            let clobber = named_by_use(alloc, func, flow, form, alias, i)?;
+            Ok(Some(use_line(alloc, numbers, clobber)?))
+        }
+        Some(Kind::Neither) => Ok(None),
         None => Ok(None),
     }
 }

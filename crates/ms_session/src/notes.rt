@@ -1,17 +1,20 @@
 // The annotations of a function.
 ghost use Rattle.std.specs.Prelude.{◌≡◌, ◌<◌, ◌≤◌, [], ℕ, length, Some, slice_get, IfOk, OnOk};
-ghost use Rattle.ms_paths.specs.Flow.{IsClosed};
+ghost use Rattle.ms_paths.specs.Flow.{IsClosed, IsReducible};
+ghost use Rattle.ms_ir.specs.Graph.{graph_of};
+ghost use Rattle.ms_alias.specs.Tables.{IsAliasOf};
 ghost use Rattle.ms_ir.specs.Inst.{kind_of_inst};
 ghost use Rattle.ms_ir.specs.Func.{Placed, insts_at};
 ghost use Rattle.ms_flow.specs.Table.{edges_of};
 ghost use Rattle.ms_build.specs.Accesses.{defining_at};
 ghost use Rattle.ms_build.specs.Built.{IsFormOf};
 ghost use Rattle.ms_print.specs.Text.{note_at};
-ghost use Rattle.ms_session.specs.Annotated.{IsNearest};
-ghost use Rattle.ms_session.specs.Shown.{named_note, shown_phi, with_line};
+ghost use Rattle.ms_session.specs.Annotated.{IsAnnotated};
+ghost use Rattle.ms_session.specs.Shown.{IsShownLine, shown_phi, with_line};
 
 use crate::lines::{inst_line, phi_line};
 use crate::numbers::{Numbers, number_all};
+use ms_alias::Alias;
 use ms_flow::Flow;
 use ms_form::Form;
 use ms_ir::{BlockNo, Func, InstNo, Name, Names, NoMemory, Text};
@@ -50,34 +53,45 @@ fn phi_notes(
 // The lines before instructions, in rising order of their numbers.
 fn inst_notes(
     alloc: Global,
-    numbers: &Numbers,
     func: &Func,
+    flow: &Flow,
     form: &Form,
+    alias: &Alias,
+    numbers: &Numbers,
 ) -> Result<NoteList, NoMemory>
+    requires graph { flow.now.graph ≡ edges_of func.now.blocks }
+    requires closed { IsClosed (graph_of func.now.blocks) }
+    requires reducible { IsReducible flow.now.graph }
+    requires form { IsFormOf func.now form.now }
+    requires alias { IsAliasOf func.now alias.now }
     ensures { IfOk result (λ notes. (b k : ℕ) (x : Placed) → slice_get (insts_at func.now.blocks b) k ≡ Some x →
-        note_at notes x.number ≡ named_note numbers.now.all (defining_at form.now x.number) x.number (kind_of_inst x.inst)) }
+        IsShownLine func.now numbers.now.all b k x (defining_at form.now x.number) (kind_of_inst x.inst) (note_at notes x.number)) }
 {
     func.numbered();
     let mut notes = NoteList::new(alloc);
     for i in 0..func.made() {
-        let line = inst_line(alloc, func, form, numbers, InstNo(i))?;
+        let line = inst_line(alloc, func, flow, form, alias, numbers, InstNo(i))?;
         push_line(&mut notes, i, line)?;
     }
     Ok(notes)
 }
 
-/// The text of a function with its annotations, by its flow graph and its form. It takes time in the function's size.
+/// The text of a function with its annotations, by its flow graph, its form and its pointers. One walk is made for each use in
+/// a reached block.
 pub fn annotated(
     alloc: Global,
     names: &Names,
     func: &Func,
     flow: &Flow,
     form: &Form,
+    alias: &Alias,
 ) -> Result<Text, NoMemory>
     requires graph { flow.now.graph ≡ edges_of func.now.blocks }
-    requires closed { IsClosed flow.now.graph }
+    requires closed { IsClosed (graph_of func.now.blocks) }
+    requires reducible { IsReducible flow.now.graph }
     requires form { IsFormOf func.now form.now }
-    ensures { IfOk result (λ text. IsNearest names.now func.now text) }
+    requires alias { IsAliasOf func.now alias.now }
+    ensures { IfOk result (λ text. IsAnnotated names.now func.now text) }
 {
     func.numbered();
     ms_paths::one_answer();
@@ -88,7 +102,7 @@ pub fn annotated(
     let labels = block_labels(alloc, func)?;
     let notes = Notes {
         phis: phi_notes(alloc, labels.as_slice(), &numbers, flow, form)?,
-        insts: inst_notes(alloc, &numbers, func, form)?,
+        insts: inst_notes(alloc, func, flow, form, alias, &numbers)?,
     };
     Ok(print_func(alloc, func, names, &notes)?)
 }

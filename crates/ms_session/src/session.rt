@@ -2,28 +2,39 @@ ghost use Rattle.std.specs.Prelude.{◌≡◌, ◌<◌, ◌↔◌, IfOk, IsTrue,
 ghost use Rattle.ms_paths.specs.Flow.{IsClosed, IsReducible, IsReached, IsOnEveryPath};
 ghost use Rattle.ms_ir.specs.Graph.{graph_of};
 
+use crate::counts::count_uses;
 use crate::notes::annotated;
+use ms_alias::{Alias, Loc};
 use ms_build::build;
 use ms_flow::Flow;
-use ms_form::Form;
-use ms_ir::{BlockNo, Func, Names, NoMemory, Text};
+use ms_form::{Access, Form};
+use ms_ir::{BlockNo, Func, InstNo, Names, NoMemory, Text};
+use ms_walk::walk;
 use std::alloc::Global;
 use std::marker::Model;
 
-/// An annotated text, and how many clobber queries were walked for it: none, while a use names the last access before it.
+/// An annotated text, and how many clobber queries were walked for it: one for each use in a reached block, as nothing is kept.
 #[derive(Drop)]
 pub struct Printed {
     pub text: Text,
     pub walks: u64,
 }
 
-/// One function and its memory form. Contracts see the function.
+/// A clobber, and whether it was walked for: so far always, as nothing is kept.
+#[derive(Clone, Copy, PartialEq, Eq)]
+pub struct Found {
+    pub access: Access,
+    pub walked: bool,
+}
+
+/// One function, its memory form and its pointers. Contracts see the function.
 #[derive(Drop)]
 pub struct Session {
     alloc: Global,
     func: Func,
     flow: Flow,
     form: Form,
+    alias: Alias,
 }
 
 impl Model for Session {
@@ -32,43 +43,72 @@ impl Model for Session {
     ghost use Rattle.ms_paths.specs.Flow.{IsClosed, IsReducible};
     ghost use Rattle.ms_flow.specs.Table.{edges_of};
     ghost use Rattle.ms_build.specs.Built.{IsFormOf};
+    ghost use Rattle.ms_ir.specs.Graph.{graph_of};
+    ghost use Rattle.ms_alias.specs.Tables.{IsAliasOf};
 
     ghost Value = { FuncState };
 
     ghost view = { λ s. s.func };
 
-    ghost invariant = { λ s. (s.flow.graph ≡ edges_of s.func.blocks) × IsClosed s.flow.graph × IsReducible s.flow.graph × IsFormOf s.func s.form };
+    ghost invariant = { λ s. (s.flow.graph ≡ edges_of s.func.blocks) × IsClosed s.flow.graph × IsReducible s.flow.graph × IsFormOf s.func s.form × IsClosed (graph_of s.func.blocks) × IsAliasOf s.func s.alias };
 }
 
 impl Session {
-    ghost use Rattle.ms_session.specs.Annotated.{IsNearest};
+    ghost use Rattle.std.specs.Prelude.{◌≡◌, true};
+    ghost use Rattle.ms_build.specs.Accesses.{event_of};
+    ghost use Rattle.ms_climb.specs.Answer.{StandsReached};
+    ghost use Rattle.ms_alias.specs.Building.{HasNearSteps};
+    ghost use Rattle.ms_alias.specs.Tables.{IsAliasOf};
+    ghost use Rattle.ms_walk.specs.Clobber.{IsClobber};
+    ghost use Rattle.ms_session.specs.Annotated.{IsAnnotated, HasUses};
 
-    /// Opens a function whose terminators name its own blocks and whose loops are reducible. The function is dropped on `NoMemory`.
+    /// Opens a function whose terminators name its own blocks, whose loops are reducible, and in which no getelementptr passes the
+    /// greatest offset. The function is dropped on `NoMemory`.
     pub fn start(alloc: Global, func: Func) -> Result<Session, NoMemory>
         requires closed { IsClosed (graph_of func.blocks) }
         requires reducible { IsReducible (graph_of func.blocks) }
+        requires near { HasNearSteps func }
         ensures { IfOk result (λ s. s ≡ func) }
     {
         ms_flow::same_paths();
         let flow = Flow::of(alloc, &func)?;
         let form = build(alloc, &func, &flow)?;
+        let alias = Alias::of(alloc, &func, &flow)?;
         Ok(Session {
             alloc,
             func,
             flow,
             form,
+            alias,
         })
     }
 
-    /// The function's annotated text, in which each access names the last one before it on every path. The names are those of
-    /// the function's module.
+    /// The function's annotated text, in which each Def and phi names the last accesses before it on every path and each use the
+    /// clobber of what it reads. The names are those of the function's module.
     pub fn text(&mut self, names: &Names) -> Result<Printed, NoMemory>
-        ensures text { IfOk result (λ p. IsNearest names.now self.old p.text) }
-        ensures walks { IfOk result (λ p. p.walks ≡ 0) }
+        ensures text { IfOk result (λ p. IsAnnotated names.now self.old p.text) }
+        ensures walks { IfOk result (λ p. HasUses self.old p.walks) }
         ensures same { self.new ≡ self.old }
     {
-        let text = annotated(self.alloc, names, &self.func, &self.flow, &self.form)?;
-        Ok(Printed { text, walks: 0 })
+        ms_flow::same_paths();
+        ms_flow::order_told();
+        let text = annotated(self.alloc, names, &self.func, &self.flow, &self.form, &self.alias)?;
+        let walks = count_uses(&self.func, &self.flow);
+        Ok(Printed { text, walks })
+    }
+
+    /// The clobber of a location before an instruction of a reached block: the last one on every path that may write it.
+    pub fn clobber(&mut self, i: InstNo, loc: &Loc) -> Result<Found, NoMemory>
+        requires { StandsReached self.old.blocks i.0 }
+        ensures clobber { IfOk result (λ found. IsClobber self.old i.0 loc.now (event_of found.access)) }
+        ensures walked { IfOk result (λ found. found.walked ≡ true) }
+        ensures same { self.new ≡ self.old }
+    {
+        let access = walk(self.alloc, &self.func, &self.flow, &self.form, &self.alias, i, loc)?;
+        Ok(Found {
+            access,
+            walked: true,
+        })
     }
 
     /// Whether a path from block 0 leads to a block.
@@ -96,6 +136,13 @@ impl Session {
         ensures { result.now ≡ self.now }
     {
         &self.func
+    }
+
+    /// The function's pointers as they stand.
+    pub fn alias(&self) -> &Alias
+        ensures { IsAliasOf self.now result.now }
+    {
+        &self.alias
     }
 
     /// Gives the function back.

@@ -1,13 +1,17 @@
 // What no clause says: that the calls succeed with ample memory, and that the text is the one that is meant.
-ghost use Rattle.std.specs.Prelude.{◌<◌, ◌≤◌, ◌≡◌, ◌++◌, ◌∷◌, [], length};
+ghost use Rattle.std.specs.Prelude.{◌<◌, ◌≤◌, ◌≡◌, ◌++◌, ◌∷◌, [], length, None};
 ghost use Rattle.ms_ir.specs.declared.names.Name.TheVariants.{Absent};
 ghost use Rattle.ms_paths.specs.Flow.{IsClosed, IsReducible};
 ghost use Rattle.ms_ir.specs.Graph.{graph_of};
 ghost use Rattle.ms_flow.specs.Table.{edges_of};
+ghost use Rattle.ms_alias.specs.Roots.{step_in};
+ghost use Rattle.ms_alias.specs.Building.{HasNearSteps};
+ghost use Rattle.ms_session.specs.Shown.{MakesNoSteps};
 
-use crate::{Session, one_nearest};
+use crate::{Found, Session, one_annotated};
 use ms_flow::Flow;
-use ms_ir::{BlockNo, Func, Inst, Items, LocalNo, Name, Names, Param, Term, Text, Ty, Val};
+use ms_form::Access;
+use ms_ir::{BlockNo, Func, Inst, InstNo, Items, LocalNo, Name, Names, Param, Term, Text, Ty, Val};
 use std::alloc::Global;
 use std::process::Abort;
 use std::test::Fail;
@@ -58,7 +62,8 @@ fn add(rt: &impl Abort, f: &mut Func, term: Term)
 
 // A function of three blocks, the second of which is a loop.
 fn looping(rt: &impl Abort, alloc: Global) -> Func
-    ensures { IsClosed (graph_of result.blocks) }
+    ensures closed { IsClosed (graph_of result.blocks) }
+    ensures steps { MakesNoSteps result.blocks }
 {
     let mut f = no_blocks(rt, alloc);
     add(rt, &mut f, Term::Br(BlockNo(1), Items::new(alloc)));
@@ -71,8 +76,11 @@ fn looping(rt: &impl Abort, alloc: Global) -> Func
 
 // Puts an instruction behind the others of a block.
 fn put(rt: &impl Abort, f: &mut Func, b: u32, inst: Inst)
-    requires { IsClosed (graph_of f.old.blocks) }
-    ensures { IsClosed (graph_of f.new.blocks) }
+    requires closed { IsClosed (graph_of f.old.blocks) }
+    requires steps { MakesNoSteps f.old.blocks }
+    requires inst { step_in inst ≡ None }
+    ensures closed { IsClosed (graph_of f.new.blocks) }
+    ensures steps { MakesNoSteps f.new.blocks }
 {
     assert!(rt; b < f.block_count());
     assert!(rt; f.made() < u32::MAX);
@@ -81,7 +89,9 @@ fn put(rt: &impl Abort, f: &mut Func, b: u32, inst: Inst)
     f.put_inst(BlockNo(b), place, inst, Name::Absent);
 }
 
-fn store(alloc: Global, n: u64) -> Inst {
+fn store(alloc: Global, n: u64) -> Inst
+    ensures { step_in result ≡ None }
+{
     Inst::Store {
         ty: Ty::I32,
         val: Val::Num(Ty::I32, n),
@@ -90,7 +100,9 @@ fn store(alloc: Global, n: u64) -> Inst {
     }
 }
 
-fn load(alloc: Global) -> Inst {
+fn load(alloc: Global) -> Inst
+    ensures { step_in result ≡ None }
+{
     Inst::Load {
         ty: Ty::I32,
         ptr: Val::Local(LocalNo(0)),
@@ -121,11 +133,31 @@ fn test_loops(rt: &impl Abort, alloc: Global, f: &Func)
     test_reducible(rt, &flow);
 }
 
+// A function without getelementptrs passes no limit of theirs.
+fn no_steps(f: &Func)
+    requires { MakesNoSteps f.now.blocks }
+    ensures { HasNearSteps f.now }
+{
+    let _f = f;
+}
+
+// The clobber of what an instruction reads.
+fn clobber_of(rt: &impl Abort, session: &mut Session, i: u32) -> Found {
+    let loc = session.alias().reads(session.func(), InstNo(i));
+    let loc = loc.expect(rt, "a location");
+    let (b, _) = session.func().place_of(InstNo(i)).expect(rt, "a place");
+    assert!(rt; session.reached(b));
+    session.clobber(InstNo(i), &loc).ok().expect(rt, "memory")
+}
+
 // Checks what a session tells of its function.
 fn check(rt: &impl Abort, alloc: Global, session: &mut Session) {
     let printed = session.text(&Names::new(alloc)).ok().expect(rt, "memory");
     assert_eq!(rt; printed.text.bytes(), LOOP);
-    assert_eq!(rt; printed.walks, 0);
+    assert_eq!(rt; printed.walks, 1);
+    let found = clobber_of(rt, session, 1);
+    assert!(rt; found.walked);
+    assert!(rt; found.access == Access::Phi(BlockNo(1)));
     assert!(rt; session.func().block_count() > 2);
     assert!(rt; session.reached(BlockNo(2)));
     assert!(rt; session.cuts(BlockNo(1), BlockNo(2)));
@@ -135,12 +167,13 @@ fn check(rt: &impl Abort, alloc: Global, session: &mut Session) {
 #[test]
 fn a_loop_has_a_phi(rt: HostRuntime) -> Result<(), Fail> {
     let alloc = rt.alloc();
-    one_nearest();
+    one_annotated();
     let mut f = looping(&rt, alloc);
     put(&rt, &mut f, 0, store(alloc, 0));
     put(&rt, &mut f, 1, load(alloc));
     put(&rt, &mut f, 1, store(alloc, 1));
     test_loops(&rt, alloc, &f);
+    no_steps(&f);
     let mut session = Session::start(alloc, f)?;
     check(&rt, alloc, &mut session);
     assert_eq!(rt; session.into_func().made(), 3);

@@ -14,6 +14,11 @@ push_func-requires-clause-reducible c =
     let m = c.args.module.now in
     (c.requires c.args.f.0 c.in-Some.func (body_found (slice_get m.bodies c.args.f.0) c.in-Some.func c.in-Some.ensures.body)).1
 
+pub push_func-requires-clause-near : goal.push_func-requires-clause-near
+push_func-requires-clause-near c =
+    let m = c.args.module.now in
+    (c.requires c.args.f.0 c.in-Some.func (body_found (slice_get m.bodies c.args.f.0) c.in-Some.func c.in-Some.ensures.body)).2
+
 pub put_func-requires-clause-defined : goal.put_func-requires-clause-defined
 put_func-requires-clause-defined c =
     let m = c.args.module.now in

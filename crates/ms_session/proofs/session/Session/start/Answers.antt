@@ -12,4 +12,6 @@ invariant_of-result c = (
   subst IsClosed (sym c.in_ok-flow.ensures) (c.same_paths.ensures.closed c.args.func.blocks c.requires.closed),
   subst IsReducible (sym c.in_ok-flow.ensures) ((c.same_paths.ensures.reducible c.args.func.blocks).1 c.requires.reducible),
   c.in_ok-form.ensures.form,
+  c.requires.closed,
+  c.in_ok-alias.ensures,
 )

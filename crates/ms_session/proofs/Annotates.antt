@@ -23,8 +23,8 @@ use Rattle.ms_build.specs.Filled.{names_access}
 use Rattle.ms_print.specs.declared.notes.Notes.{Notes}
 use Rattle.ms_print.specs.Numbering.{labels_of}
 use Rattle.ms_print.specs.Text.{note_at, func_text}
-use Rattle.ms_session.specs.Annotated.{IsNearest, numbered_from, number_in, note_of, inst_note, phi_note, entries_by_slot, entries_from, with_commas}
-use Rattle.ms_session.specs.Shown.{reached_in, named_note, entry_text, operand_text, operand_texts, phi_text, shown_phi}
+use Rattle.ms_session.specs.Annotated.{IsAnnotated, IsInstLine, numbered_from, number_in, note_of, phi_note, entries_by_slot, entries_from, with_commas}
+use Rattle.ms_session.specs.Shown.{reached_in, IsShownLine, entry_text, operand_text, operand_texts, phi_text, shown_phi}
 use Rattle.ms_session.proofs.Unique.{OneAnswer, true_alike}
 use Rattle.ms_session.proofs.Sources.{edge, edges_hold, edges_have}
 use Rattle.ms_session.proofs.Lasts.{OnePlaced, last_by, lasts_are}
@@ -154,40 +154,28 @@ phi_same law f form told edges every paths h lasts b =
     held (x ∷ xs) zero e at = let same : x ≡ e = cc in (0, omega arith, same)
     held (x ∷ xs) (suc j) e at = let r = held xs j e at in (suc r.0, omega (arith, r.1), r.2)
 
-named_is : OneAnswer → (blocks : List Block) (reached phis : ℕ → Bool) (last : ℕ → ℕ → Event) (all : List Event) (b k i : ℕ) (a : Option Access) (kind : Kind)
-    → IsLasts blocks reached phis last → IsReached (graph_of blocks) b → (names_access kind ≡ true → IsAnswered blocks b k a) → named_note all a i kind ≡ note_of all (last b k) i kind
-named_is law blocks reached phis last all b k i None Def lasts r h = absurd (h refl)
-named_is law blocks reached phis last all b k i None Reads lasts r h = absurd (h refl)
-named_is law blocks reached phis last all b k i None Neither lasts r h = refl
-named_is law blocks reached phis last all b k i (Some x) Def lasts r h =
-    ap (λ e. note_of all e i Def) (law (graph_of blocks) (defs_of blocks) b k (event_of x) (last b k) r (h refl) (lasts.last_is b k r))
-named_is law blocks reached phis last all b k i (Some x) Reads lasts r h =
-    ap (λ e. note_of all e i Reads) (law (graph_of blocks) (defs_of blocks) b k (event_of x) (last b k) r (h refl) (lasts.last_is b k r))
-named_is law blocks reached phis last all b k i (Some x) Neither lasts r h = refl
+-- where a block is reached, the line that the form shows is the one that it should be
+line_is : OneAnswer → (f : FuncState) (reached phis : ℕ → Bool) (last : ℕ → ℕ → Event) (all : List Event) (b k : ℕ) (x : Placed) (a : Option Access) (kind : Kind) (line : List ℕ)
+    → IsLasts f.blocks reached phis last → IsReached (graph_of f.blocks) b → (names_access kind ≡ true → IsAnswered f.blocks b k a)
+    → IsShownLine f all b k x a kind line → IsInstLine f last all b k x kind line
+line_is law f reached phis last all b k x None Def line lasts r h s = absurd (h refl)
+line_is law f reached phis last all b k x None Reads line lasts r h s = absurd (h refl)
+line_is law f reached phis last all b k x None Neither line lasts r h s = s
+line_is law f reached phis last all b k x (Some a) Def line lasts r h s =
+    s ∙ ap (λ e. note_of all e x.number Def) (law (graph_of f.blocks) (defs_of f.blocks) b k (event_of a) (last b k) r (h refl) (lasts.last_is b k r))
+line_is law f reached phis last all b k x (Some a) Reads line lasts r h s = s
+line_is law f reached phis last all b k x (Some a) Neither line lasts r h s = s
 
--- the line before an instruction
-inst_same : OneAnswer → (f : FuncState) (form : FormState) (reached phis : ℕ → Bool) (last : ℕ → ℕ → Event) (all : List Event) → OnePlaced f.blocks → IsFormOf f form
-    → IsLasts f.blocks reached phis last → (b k : ℕ) (x : Placed) → slice_get (insts_at f.blocks b) k ≡ Some x
-    → named_note all (defining_at form x.number) x.number (kind_of_inst x.inst) ≡ inst_note reached last all b k x
-inst_same law f form reached phis last all one h lasts b k x at =
-    ⊎_elim
-    (λ (r : reached b ≡ true).
-    let path = (lasts.reached_are b).0 r in
-    rw r (named_is law f.blocks reached phis last all b k x.number (defining_at form x.number) (kind_of_inst x.inst) lasts path
-    (λ names. h.defining b k x path (record { found = at; names = names }))))
-    (λ (n : reached b ≡ false).
-    let none : defining_at form x.number ≡ None = h.no_defining x.number (λ c j y path there same.
-    let place = one c j b k y x there.found at same in
-    both_ways (reached b) n ((lasts.reached_are b).1 (subst (IsReached (graph_of f.blocks)) place.0 path))) in
-    rw (n, none) refl)
-    (cases_Bool (reached b))
+none_shown : (f : FuncState) (all : List Event) (b k : ℕ) (x : Placed) (a : Option Access) (kind : Kind) (line : List ℕ) → a ≡ None → IsShownLine f all b k x a kind line → line ≡ []
+none_shown f all b k x None kind line e s = s
+none_shown f all b k x (Some a) kind line e s = cc
 
 of_edges : OneAnswer → (names : NamesState) (f : FuncState) (form : FormState) (all : List Event) (labels : List Name) (notes : Notes) (text : List ℕ)
     → ReachedTold (edges_of f.blocks) → EdgesTold (edges_of f.blocks) → AllTold (edges_of f.blocks) → ((b : ℕ) → IsReached (edges_of f.blocks) b ↔ IsReached (graph_of f.blocks) b)
     → OnePlaced f.blocks → IsFormOf f form → all ≡ all_of f form → labels ≡ labels_of f
     → ((b : ℕ) → b < length (edges_of f.blocks) → note_at notes.phis b ≡ shown_phi labels all (edges_of f.blocks) form b)
-    → ((b k : ℕ) (x : Placed) → slice_get (insts_at f.blocks b) k ≡ Some x → note_at notes.insts x.number ≡ named_note all (defining_at form x.number) x.number (kind_of_inst x.inst))
-    → length (edges_of f.blocks) ≡ length f.blocks → text ≡ func_text names f notes → IsNearest names f text
+    → ((b k : ℕ) (x : Placed) → slice_get (insts_at f.blocks b) k ≡ Some x → IsShownLine f all b k x (defining_at form x.number) (kind_of_inst x.inst) (note_at notes.insts x.number))
+    → length (edges_of f.blocks) ≡ length f.blocks → text ≡ func_text names f notes → IsAnnotated names f text
 of_edges law names f form all labels notes text told edges every paths one h numbered labelled phis insts size is =
     let g : List Run = edges_of f.blocks in
     let lasts = lasts_are f form (reached_in g) h one (λ b. (λ t. (paths b).0 ((told b).0 t), λ r. (told b).1 ((paths b).1 r))) in
@@ -198,20 +186,29 @@ of_edges law names f form all labels notes text told edges every paths one h num
       lasts = lasts;
       notes = notes;
       at_blocks = λ b lt. phis b (omega arith) ∙ ap (λ ls. shown_phi ls all g form b) labelled ∙ ap (λ es. shown_phi (labels_of f) es g form b) numbered ∙ phi_same law f form told edges every paths h lasts b;
-      at_insts = λ b k x at. insts b k x at ∙ ap (λ es. named_note es (defining_at form x.number) x.number (kind_of_inst x.inst)) numbered
-          ∙ inst_same law f form (reached_in g) (has_phi form) (last_of f form) (all_of f form) one h lasts b k x at;
+      at_insts = λ b k x on at.
+          let path = (lasts.reached_are b).0 on in
+          let line : List ℕ = note_at notes.insts x.number in
+          line_is law f (reached_in g) (has_phi form) (last_of f form) (all_of f form) b k x (defining_at form x.number) (kind_of_inst x.inst) line lasts path
+          (λ names. h.defining b k x path (record { found = at; names = names }))
+          (subst (λ es. IsShownLine f es b k x (defining_at form x.number) (kind_of_inst x.inst) line) numbered (insts b k x at));
+      elsewhere = λ b k x off at.
+          let none : defining_at form x.number ≡ None = h.no_defining x.number (λ c j y path there same.
+          let place = one c j b k y x there.found at same in
+          both_ways (reached_in g b) off ((lasts.reached_are b).1 (subst (IsReached (graph_of f.blocks)) place.0 path))) in
+          none_shown f all b k x (defining_at form x.number) (kind_of_inst x.inst) (note_at notes.insts x.number) none (insts b k x at);
       text_is = is;
     }
 
 -- the text with the notes that a form shows
-pub nearest_text : OneAnswer → (names : NamesState) (f : FuncState) (form : FormState) (g : List Run) (all : List Event) (labels : List Name) (notes : Notes) (text : List ℕ)
+pub annotated_text : OneAnswer → (names : NamesState) (f : FuncState) (form : FormState) (g : List Run) (all : List Event) (labels : List Name) (notes : Notes) (text : List ℕ)
     → g ≡ edges_of f.blocks → ReachedTold g → EdgesTold g → AllTold g → ((b : ℕ) → IsReached (edges_of f.blocks) b ↔ IsReached (graph_of f.blocks) b)
     → OnePlaced f.blocks → IsFormOf f form → all ≡ numbered_from (reached_in g) (has_phi form) 0 f.blocks → labels ≡ labels_of f
     → ((b : ℕ) → b < length g → note_at notes.phis b ≡ shown_phi labels all g form b)
-    → ((b k : ℕ) (x : Placed) → slice_get (insts_at f.blocks b) k ≡ Some x → note_at notes.insts x.number ≡ named_note all (defining_at form x.number) x.number (kind_of_inst x.inst))
-    → length (edges_of f.blocks) ≡ length f.blocks → text ≡ func_text names f notes → IsNearest names f text
-nearest_text law names f form g all labels notes text e told edges every paths one h numbered labelled phis insts size is =
+    → ((b k : ℕ) (x : Placed) → slice_get (insts_at f.blocks b) k ≡ Some x → IsShownLine f all b k x (defining_at form x.number) (kind_of_inst x.inst) (note_at notes.insts x.number))
+    → length (edges_of f.blocks) ≡ length f.blocks → text ≡ func_text names f notes → IsAnnotated names f text
+annotated_text law names f form g all labels notes text e told edges every paths one h numbered labelled phis insts size is =
     let P : List Run → Type 0 = λ r. ReachedTold r → EdgesTold r → AllTold r → all ≡ numbered_from (reached_in r) (has_phi form) 0 f.blocks
-    → ((b : ℕ) → b < length r → note_at notes.phis b ≡ shown_phi labels all r form b) → IsNearest names f text in
+    → ((b : ℕ) → b < length r → note_at notes.phis b ≡ shown_phi labels all r form b) → IsAnnotated names f text in
     let whole : P (edges_of f.blocks) = λ t ed ev n ph. of_edges law names f form all labels notes text t ed ev paths one h n labelled ph insts size is in
     subst P (sym e) whole told edges every numbered phis

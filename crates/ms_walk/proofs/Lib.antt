@@ -1,0 +1,5 @@
+pub mod Writing
+pub mod Once
+pub mod Roots
+pub mod Marks
+pub mod Spare

@@ -1,0 +1,23 @@
+use Rattle.std.proofs.Common.{false, get_or}
+use Rattle.ms_walk.proofs.Writing.{writer_is_def}
+use Rattle.ms_walk.proofs.search.walk.Goals as goal
+
+pub returns : goal.returns
+returns c =
+    let r = c.requires.reached in
+    record {
+      block = r.block;
+      place = r.place;
+      inst = r.inst;
+      at = r.at;
+      reached = r.reached;
+      clobber = record {
+        writes = λ j. get_or c.in_ok-writers.writers.marks.items j false;
+        writers = c.in_ok-writers.ensures;
+        answer = c.in_ok-last_before.ensures r.block r.place r.inst r.at;
+      };
+    }
+
+pub last_before-requires-clause-defs : goal.last_before-requires-clause-defs
+last_before-requires-clause-defs c =
+    λ j t. writer_is_def c.args.func.now c.numbered.ensures.one_place j c.args.loc.now ((c.in_ok-writers.ensures j).0 t)

@@ -1,0 +1,24 @@
+// Laws of clobbers. Each is the contract of a function that does nothing.
+ghost use Rattle.std.specs.Prelude.{◌≡◌, ℕ};
+ghost use Rattle.ms_paths.specs.Flow.{Event, IsReached};
+ghost use Rattle.ms_ir.specs.Func.{FuncState};
+ghost use Rattle.ms_ir.specs.Graph.{graph_of};
+ghost use Rattle.ms_ir.specs.Locals.{IsNumbered};
+ghost use Rattle.ms_ir.specs.declared.names.InstNo.{InstNo};
+ghost use Rattle.ms_ir.specs.declared.inst.Inst.{Inst};
+ghost use Rattle.ms_alias.specs.declared.loc.Loc.{Loc};
+ghost use Rattle.ms_alias.specs.Reaches.{IsLocRead};
+ghost use Rattle.ms_walk.specs.Clobber.{IsClobberAt, IsClobber};
+
+/// A location has one clobber at most before a place of a reached block, and so before an instruction.
+pub fn one_clobber()
+    ensures at { (f : FuncState) (b k : ℕ) (loc : Loc) (d e : Event) → IsReached (graph_of f.blocks) b → IsClobberAt f b k loc d → IsClobberAt f b k loc e → d ≡ e }
+    ensures one { (f : FuncState) (i : ℕ) (loc : Loc) (d e : Event) → IsNumbered f → IsClobber f i loc d → IsClobber f i loc e → d ≡ e }
+{
+    ms_paths::one_answer();
+}
+
+/// An instruction reads one location at most.
+pub fn one_location()
+    ensures { (f : FuncState) (i : InstNo) (inst : Inst) (a b : Loc) → IsLocRead f i inst a → IsLocRead f i inst b → a ≡ b }
+{}

@@ -1,0 +1,9 @@
+//! The walker: the clobber of a location before an instruction, by the search of `ms_climb` and the pointers of `ms_alias`.
+#![tactic(auto)]
+
+mod laws;
+mod search;
+mod writers;
+
+pub use laws::{one_clobber, one_location};
+pub use search::walk;
