@@ -1,12 +1,12 @@
 -- Notes found through a table.
-use Rattle.std.proofs.Common.{◌≡◌, ◌≢◌, ◌<◌, ◌≤◌, ◌-◌, ◌+◌, ℕ, suc, zero, List, [], ◌∷◌, drop, length, set, get_or, Option, Some, None, true, false, eqb, refl, ap, sym, ◌∙◌, arith, add-one, ⊎_elim}
+use Rattle.std.proofs.Common.{◌≡◌, ◌≢◌, ◌<◌, ◌≤◌, ◌+◌, ℕ, suc, zero, List, [], ◌∷◌, drop, length, set, get_or, Option, Some, None, true, false, eqb, refl, arith, ⊎_elim}
 use Rattle.std.proofs.lemmas.Bool.{cases_Bool}
 use Rattle.std.proofs.lemmas.Bool.Decides.{nat_tests}
 use Rattle.std.proofs.lemmas.List.{get_or-set_same, get_or-set_other, drop_more}
 use Rattle.std.specs.List.{slice_get}
 use Rattle.ms_print.specs.declared.notes.Note.{Note}
-use Rattle.ms_print.specs.Text.{note_at, ended}
-use Rattle.ms_print.specs.Notes.{note_by, note_before, note_in, note_in_place, no_note}
+use Rattle.ms_print.specs.Text.{note_at}
+use Rattle.ms_print.specs.Notes.{note_by, note_before, no_note}
 
 note_there : (notes : List Note) (place : ℕ) → place < length notes → slice_get notes place ≡ Some (get_or notes place no_note)
 note_there [] place h = absurd (omega arith)

@@ -1,12 +1,12 @@
 -- Numbers and names along the text.
-use Rattle.std.proofs.Common.{◌≡◌, ◌<◌, ◌≤◌, ◌+◌, ℕ, suc, zero, List, [], ◌∷◌, ◌++◌, length, get_or, Option, Some, None, if◌then◌else◌, refl, ap, sym, ◌∙◌, arith}
+use Rattle.std.proofs.Common.{◌≡◌, ◌<◌, ◌≤◌, ◌+◌, ℕ, suc, zero, List, [], ◌∷◌, ◌++◌, length, get_or, Option, Some, None, if◌then◌else◌, refl, arith}
 use Rattle.std.specs.Option.{is_some, IfSome}
 use Rattle.ms_ir.specs.declared.names.Name.{Name}
 use Rattle.ms_ir.specs.declared.names.Name.TheVariants.{Word, Number, Absent}
 use Rattle.ms_ir.specs.declared.names.Param.{Param}
 use Rattle.ms_ir.specs.declared.names.LocalNo.{LocalNo}
 use Rattle.ms_ir.specs.declared.func.Node.{Node}
-use Rattle.ms_ir.specs.Func.{Placed, Block, placed_as, no_block}
+use Rattle.ms_ir.specs.Func.{Placed, placed_as}
 use Rattle.ms_print.specs.Numbering.{shown_name, shown_params, free_after, free_after_insts, name_among, is_given}
 
 pub free_after-le : (next : ℕ) (name : Name) → free_after next name ≤ next + 1

@@ -1,5 +1,5 @@
 -- The text so far, and the text of what is left behind it.
-use Rattle.std.proofs.Common.{◌≡◌, ◌<◌, ◌+◌, ℕ, zero, suc, List, [], ◌∷◌, ◌++◌, drop, length, get_or, Option, Some, None, Bool, refl, ap, sym, ◌∙◌, subst, arith, add-one, append_assoc}
+use Rattle.std.proofs.Common.{◌≡◌, ◌<◌, ◌+◌, ℕ, zero, suc, List, [], ◌∷◌, ◌++◌, drop, length, get_or, Option, Some, None, Bool, refl, ap, ◌∙◌, subst, add-one, append_assoc}
 use Rattle.std.proofs.lemmas.List.{drop_more}
 use Rattle.std.specs.List.{slice_index_or, slice_get}
 use mathlib.Core.Path.{fun_ext}
@@ -11,7 +11,6 @@ use Rattle.ms_ir.specs.declared.module.Item.{Item}
 use Rattle.ms_ir.specs.Symbols.{NamesState}
 use Rattle.ms_ir.specs.Func.{Placed, Block, FuncState, placed_as, no_block}
 use Rattle.ms_ir.specs.Module.{ModuleState}
-use Rattle.ms_grammar.specs.Form.{printed}
 use Rattle.ms_grammar.specs.declared.line.Line.TheVariants.{Close}
 use Rattle.ms_print.specs.declared.notes.Note.{Note}
 use Rattle.ms_print.specs.declared.notes.Notes.{Notes}
@@ -19,11 +18,11 @@ use Rattle.ms_print.specs.declared.numbering.Tables.{Tables}
 use Rattle.ms_print.specs.Numbering.{shown_params, local_name, labels_of}
 use Rattle.ms_print.specs.Lines.{Shown, shown_by, shown_in, inst_line, define_with}
 use Rattle.ms_print.specs.Notes.{note_by}
-use Rattle.ms_print.specs.Text.{ended, note_at, insts_text, block_text, blocks_text, item_text, items_text, has_body, gap, func_text}
+use Rattle.ms_print.specs.Text.{line_text, note_at, insts_text, block_text, blocks_text, item_text, items_text, has_body, gap, func_text}
 
 -- the text behind the first instruction, and that of the others
 pub insts_more : (s : Shown) (notes : List Note) (xs ys : List Placed) (n : ℕ) (node : Node) (out noted lined : List ℕ) → xs ≡ placed_as n node ∷ ys
-    → noted ≡ out ++ note_at notes n → lined ≡ noted ++ ended (printed (inst_line s (placed_as n node)))
+    → noted ≡ out ++ note_at notes n → lined ≡ noted ++ line_text (inst_line s (placed_as n node))
     → lined ++ insts_text s notes ys ≡ out ++ insts_text s notes xs
 insts_more s notes xs ys n node out noted lined first second third = rw (first, third, second) (simp append_assoc)
 
@@ -65,10 +64,10 @@ items_more m before body items n x out gapped new at is first second =
 -- a function's first line, its blocks and its end are its text
 pub func_done : (names : NamesState) (f : FuncState) (notes : Notes) (t : Tables) (params : List Param) (out first second third : List ℕ)
     → params ≡ shown_params 0 f.params → ((k : ℕ) → slice_index_or t.locals.items k Absent ≡ local_name f k) → t.labels.items ≡ labels_of f
-    → first ≡ out ++ ended (printed (define_with f params)) → second ≡ first ++ blocks_text (shown_by names t) notes 0 f.blocks
-    → third ≡ second ++ ended (printed Close) → third ≡ out ++ func_text names f notes
+    → first ≡ out ++ line_text (define_with f params) → second ≡ first ++ blocks_text (shown_by names t) notes 0 f.blocks
+    → third ≡ second ++ line_text Close → third ≡ out ++ func_text names f notes
 func_done names f notes t params out first second third shown locals labels one two three =
-    let P : List Param → Type 0 = λ ps. first ≡ out ++ ended (printed (define_with f ps)) in
+    let P : List Param → Type 0 = λ ps. first ≡ out ++ line_text (define_with f ps) in
     let Q : Shown → Type 0 = λ s. second ≡ first ++ blocks_text s notes 0 f.blocks in
     let head = subst P shown one in
     let body = subst Q (shown_same names t f locals labels) two in

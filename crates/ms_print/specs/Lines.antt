@@ -1,5 +1,5 @@
 -- The line of each thing in a function: what it names is written under the names that are shown.
-use Rattle.std.specs.Prelude.{ℕ, List, [], ◌∷◌, Bool, false, Option, Some, None, map, slice_get, slice_index_or}
+use Rattle.std.specs.Prelude.{ℕ, List, [], false, Option, Some, None, map, slice_get, slice_index_or}
 use Rattle.ms_ir.specs.declared.names.Name.{Name}
 use Rattle.ms_ir.specs.declared.names.Name.TheVariants.{Word, Absent}
 use Rattle.ms_ir.specs.declared.names.LocalNo.{LocalNo}
@@ -23,7 +23,6 @@ use Rattle.ms_grammar.specs.declared.line.RawInst.{RawInst}
 use Rattle.ms_grammar.specs.declared.line.RawInst.TheVariants as raw
 use Rattle.ms_grammar.specs.declared.line.RawTerm.{RawTerm}
 use Rattle.ms_grammar.specs.declared.line.RawTerm.TheVariants as end
-use Rattle.ms_grammar.specs.declared.line.Head.{Head}
 use Rattle.ms_grammar.specs.declared.line.Line.{Line}
 use Rattle.ms_grammar.specs.declared.line.Line.TheVariants as line
 use Rattle.ms_print.specs.declared.numbering.Tables.{Tables}

@@ -18,6 +18,10 @@ use Rattle.ms_print.specs.declared.notes.Notes.{Notes}
 abbrev pub ended : List ℕ → List ℕ
 ended text = text ++ 10 ∷ []
 
+-- a line in its printed form, with its end
+unfoldable pub line_text : Line → List ℕ
+line_text line = ended (printed line)
+
 -- the line that notes have for a number, and nothing where they have none
 abbrev pub note_at : List Note → ℕ → List ℕ
 note_at [] n = []
@@ -26,22 +30,22 @@ note_at (x ∷ xs) n = if x.at == n then ended x.line else note_at xs n
 -- the lines of instructions, each behind its note
 abbrev pub insts_text : Shown → List Note → List Placed → List ℕ
 insts_text s notes [] = []
-insts_text s notes (x ∷ xs) = note_at notes x.number ++ ended (printed (inst_line s x)) ++ insts_text s notes xs
+insts_text s notes (x ∷ xs) = note_at notes x.number ++ line_text (inst_line s x) ++ insts_text s notes xs
 
 -- the label line of the first block, which it has only where its name is a word
 abbrev pub first_label : List Name → Name → List ℕ
-first_label labels (Word _) = ended (printed (label_line labels 0))
+first_label labels (Word _) = line_text (label_line labels 0)
 first_label labels (Number _) = []
 first_label labels Absent = []
 
 -- an empty line before each block but the first, and the label line
 abbrev pub label_text : List Name → ℕ → Name → List ℕ
-label_text labels b name = if b == 0 then first_label labels name else 10 ∷ ended (printed (label_line labels b))
+label_text labels b name = if b == 0 then first_label labels name else 10 ∷ line_text (label_line labels b)
 
 -- a block: its label, the note at the block, its instructions and its terminator
 abbrev pub block_text : Shown → Notes → ℕ → Block → List ℕ
 block_text s notes b x =
-    label_text s.labels b x.name ++ note_at notes.phis b ++ insts_text s notes.insts x.insts ++ ended (printed (term_line s x.term))
+    label_text s.labels b x.name ++ note_at notes.phis b ++ insts_text s notes.insts x.insts ++ line_text (term_line s x.term)
 
 -- the blocks from one on
 abbrev pub blocks_text : Shown → Notes → ℕ → List Block → List ℕ
@@ -51,7 +55,7 @@ blocks_text s notes b (x ∷ xs) = block_text s notes b x ++ blocks_text s notes
 -- the text of a function with notes
 abbrev pub func_text : NamesState → FuncState → Notes → List ℕ
 func_text names f notes =
-    ended (printed (define_line f)) ++ blocks_text (shown_in names f) notes 0 f.blocks ++ ended (printed Close)
+    line_text (define_line f) ++ blocks_text (shown_in names f) notes 0 f.blocks ++ line_text Close
 
 abbrev pub no_notes : Notes
 no_notes = record { phis = []; insts = [] }

@@ -1,5 +1,5 @@
 -- Going along the instructions of a block.
-use Rattle.std.specs.Prelude.{◌≡◌, ℕ, List, Option, option_map, slice_get}
+use Rattle.std.specs.Prelude.{◌≡◌, ℕ, List, option_map, slice_get}
 use Rattle.ms_ir.specs.declared.names.InstNo.{InstNo}
 use Rattle.ms_ir.specs.Func.{Placed, Block, insts_at}
 use Rattle.ms_print.specs.declared.walk.Walk.{Walk}

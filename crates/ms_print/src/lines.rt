@@ -6,8 +6,8 @@ ghost use Rattle.ms_print.specs.Lines.{shown_by, local_by, label_of, word_at, ra
 use crate::numbering::{Tables, copy_name};
 use ms_grammar::{RawArg, RawArgs, RawEntries, RawEntry, RawInst, RawTerm, RawVal};
 use ms_ir::{
-    Arg, BlockNo, Entry, FuncNo, GlobalNo, Inst, LocalNo, Name, Names, NoMemory, Term, Text, Ty,
-    Val,
+    Arg, BlockNo, CastOp, Entry, Flags, FuncNo, GlobalNo, Inst, LocalNo, Name, Names, NoMemory, Op,
+    Pred, Term, Text, Ty, Val,
 };
 use std::alloc::Global;
 
@@ -120,6 +120,181 @@ fn raw_entries(
     Ok(raw)
 }
 
+fn raw_gep(
+    alloc: Global,
+    names: &Names,
+    tables: &Tables,
+    base: &Val,
+    offset: i64,
+    head: &Text,
+    index: &Text,
+    tail: &Text,
+) -> Result<RawInst, NoMemory>
+    ensures { IfOk result (λ r. r ≡ RawInst.Gep (raw_val (shown_by names.now tables.now) base.now) offset head.now index.now tail.now) }
+{
+    Ok(RawInst::Gep {
+        base: raw_val(alloc, names, tables, base)?,
+        offset,
+        head: copy(alloc, head)?,
+        index: copy(alloc, index)?,
+        tail: copy(alloc, tail)?,
+    })
+}
+
+fn raw_store(
+    alloc: Global,
+    names: &Names,
+    tables: &Tables,
+    ty: Ty,
+    val: &Val,
+    ptr: &Val,
+    tail: &Text,
+) -> Result<RawInst, NoMemory>
+    ensures { IfOk result (λ r. r ≡ RawInst.Store ty (raw_val (shown_by names.now tables.now) val.now) (raw_val (shown_by names.now tables.now) ptr.now) tail.now) }
+{
+    Ok(RawInst::Store {
+        ty,
+        val: raw_val(alloc, names, tables, val)?,
+        ptr: raw_val(alloc, names, tables, ptr)?,
+        tail: copy(alloc, tail)?,
+    })
+}
+
+// What stands behind the arguments is all in the tail.
+fn raw_copy(
+    alloc: Global,
+    names: &Names,
+    tables: &Tables,
+    to: &Arg,
+    from: &Arg,
+    len: u32,
+    head: &Text,
+    tail: &Text,
+) -> Result<RawInst, NoMemory>
+    ensures { IfOk result (λ r. r ≡ RawInst.Copy (raw_arg (shown_by names.now tables.now) to.now) (raw_arg (shown_by names.now tables.now) from.now) len head.now [] tail.now) }
+{
+    Ok(RawInst::Copy {
+        to: raw_arg(alloc, names, tables, to)?,
+        from: raw_arg(alloc, names, tables, from)?,
+        len,
+        head: copy(alloc, head)?,
+        post: Text::new(alloc),
+        tail: copy(alloc, tail)?,
+    })
+}
+
+fn raw_call(
+    alloc: Global,
+    names: &Names,
+    tables: &Tables,
+    callee: FuncNo,
+    ret: Option<Ty>,
+    args: &[Arg],
+    head: &Text,
+    tail: &Text,
+) -> Result<RawInst, NoMemory>
+    ensures { IfOk result (λ r. r ≡ RawInst.Call (word_at names.now.funcs callee.0) ret (map (raw_arg (shown_by names.now tables.now)) args.now) head.now [] tail.now) }
+{
+    Ok(RawInst::Call {
+        callee: func_word(alloc, names, callee)?,
+        ret,
+        args: raw_args(alloc, names, tables, args)?,
+        head: copy(alloc, head)?,
+        post: Text::new(alloc),
+        tail: copy(alloc, tail)?,
+    })
+}
+
+fn raw_bin(
+    alloc: Global,
+    names: &Names,
+    tables: &Tables,
+    op: Op,
+    flags: Flags,
+    ty: Ty,
+    a: &Val,
+    b: &Val,
+    tail: &Text,
+) -> Result<RawInst, NoMemory>
+    ensures { IfOk result (λ r. r ≡ RawInst.Bin op flags ty (raw_val (shown_by names.now tables.now) a.now) (raw_val (shown_by names.now tables.now) b.now) tail.now) }
+{
+    Ok(RawInst::Bin {
+        op,
+        flags,
+        ty,
+        a: raw_val(alloc, names, tables, a)?,
+        b: raw_val(alloc, names, tables, b)?,
+        tail: copy(alloc, tail)?,
+    })
+}
+
+fn raw_cmp(
+    alloc: Global,
+    names: &Names,
+    tables: &Tables,
+    pred: Pred,
+    flags: Flags,
+    ty: Ty,
+    a: &Val,
+    b: &Val,
+    tail: &Text,
+) -> Result<RawInst, NoMemory>
+    ensures { IfOk result (λ r. r ≡ RawInst.Cmp pred flags ty (raw_val (shown_by names.now tables.now) a.now) (raw_val (shown_by names.now tables.now) b.now) tail.now) }
+{
+    Ok(RawInst::Cmp {
+        pred,
+        flags,
+        ty,
+        a: raw_val(alloc, names, tables, a)?,
+        b: raw_val(alloc, names, tables, b)?,
+        tail: copy(alloc, tail)?,
+    })
+}
+
+fn raw_select(
+    alloc: Global,
+    names: &Names,
+    tables: &Tables,
+    cond: &Val,
+    ty: Ty,
+    a: &Val,
+    b: &Val,
+    tail: &Text,
+) -> Result<RawInst, NoMemory>
+    ensures { IfOk result (λ r. r ≡ RawInst.Select (raw_val (shown_by names.now tables.now) cond.now) ty (raw_val (shown_by names.now tables.now) a.now) (raw_val (shown_by names.now tables.now) b.now) tail.now) }
+{
+    Ok(RawInst::Select {
+        cond: raw_val(alloc, names, tables, cond)?,
+        ty,
+        a: raw_val(alloc, names, tables, a)?,
+        b: raw_val(alloc, names, tables, b)?,
+        tail: copy(alloc, tail)?,
+    })
+}
+
+fn raw_cast(
+    alloc: Global,
+    names: &Names,
+    tables: &Tables,
+    op: CastOp,
+    flags: Flags,
+    from: Ty,
+    a: &Val,
+    to: Ty,
+    tail: &Text,
+) -> Result<RawInst, NoMemory>
+    ensures { IfOk result (λ r. r ≡ RawInst.Cast op flags from (raw_val (shown_by names.now tables.now) a.now) to tail.now) }
+{
+    Ok(RawInst::Cast {
+        op,
+        flags,
+        from,
+        a: raw_val(alloc, names, tables, a)?,
+        to,
+        tail: copy(alloc, tail)?,
+    })
+}
+
 // An instruction as its line says it.
 pub fn raw_inst(
     alloc: Global,
@@ -141,38 +316,20 @@ pub fn raw_inst(
             head,
             index,
             tail,
-        } => Ok(RawInst::Gep {
-            base: raw_val(alloc, names, tables, base)?,
-            offset: *offset,
-            head: copy(alloc, head)?,
-            index: copy(alloc, index)?,
-            tail: copy(alloc, tail)?,
-        }),
+        } => raw_gep(alloc, names, tables, base, *offset, head, index, tail),
         Inst::Load { ty, ptr, tail } => Ok(RawInst::Load {
             ty: *ty,
             ptr: raw_val(alloc, names, tables, ptr)?,
             tail: copy(alloc, tail)?,
         }),
-        Inst::Store { ty, val, ptr, tail } => Ok(RawInst::Store {
-            ty: *ty,
-            val: raw_val(alloc, names, tables, val)?,
-            ptr: raw_val(alloc, names, tables, ptr)?,
-            tail: copy(alloc, tail)?,
-        }),
+        Inst::Store { ty, val, ptr, tail } => raw_store(alloc, names, tables, *ty, val, ptr, tail),
         Inst::Copy {
             to,
             from,
             len,
             head,
             tail,
-        } => Ok(RawInst::Copy {
-            to: raw_arg(alloc, names, tables, to)?,
-            from: raw_arg(alloc, names, tables, from)?,
-            len: *len,
-            head: copy(alloc, head)?,
-            post: Text::new(alloc),
-            tail: copy(alloc, tail)?,
-        }),
+        } => raw_copy(alloc, names, tables, to, from, *len, head, tail),
         Inst::Call {
             callee,
             ret,
@@ -180,14 +337,16 @@ pub fn raw_inst(
             effects: _,
             head,
             tail,
-        } => Ok(RawInst::Call {
-            callee: func_word(alloc, names, *callee)?,
-            ret: *ret,
-            args: raw_args(alloc, names, tables, args.as_slice())?,
-            head: copy(alloc, head)?,
-            post: Text::new(alloc),
-            tail: copy(alloc, tail)?,
-        }),
+        } => raw_call(
+            alloc,
+            names,
+            tables,
+            *callee,
+            *ret,
+            args.as_slice(),
+            head,
+            tail,
+        ),
         Inst::Bin {
             op,
             flags,
@@ -195,14 +354,7 @@ pub fn raw_inst(
             a,
             b,
             tail,
-        } => Ok(RawInst::Bin {
-            op: *op,
-            flags: *flags,
-            ty: *ty,
-            a: raw_val(alloc, names, tables, a)?,
-            b: raw_val(alloc, names, tables, b)?,
-            tail: copy(alloc, tail)?,
-        }),
+        } => raw_bin(alloc, names, tables, *op, *flags, *ty, a, b, tail),
         Inst::Cmp {
             pred,
             flags,
@@ -210,27 +362,14 @@ pub fn raw_inst(
             a,
             b,
             tail,
-        } => Ok(RawInst::Cmp {
-            pred: *pred,
-            flags: *flags,
-            ty: *ty,
-            a: raw_val(alloc, names, tables, a)?,
-            b: raw_val(alloc, names, tables, b)?,
-            tail: copy(alloc, tail)?,
-        }),
+        } => raw_cmp(alloc, names, tables, *pred, *flags, *ty, a, b, tail),
         Inst::Select {
             cond,
             ty,
             a,
             b,
             tail,
-        } => Ok(RawInst::Select {
-            cond: raw_val(alloc, names, tables, cond)?,
-            ty: *ty,
-            a: raw_val(alloc, names, tables, a)?,
-            b: raw_val(alloc, names, tables, b)?,
-            tail: copy(alloc, tail)?,
-        }),
+        } => raw_select(alloc, names, tables, cond, *ty, a, b, tail),
         Inst::Cast {
             op,
             flags,
@@ -238,14 +377,7 @@ pub fn raw_inst(
             a,
             to,
             tail,
-        } => Ok(RawInst::Cast {
-            op: *op,
-            flags: *flags,
-            from: *from,
-            a: raw_val(alloc, names, tables, a)?,
-            to: *to,
-            tail: copy(alloc, tail)?,
-        }),
+        } => raw_cast(alloc, names, tables, *op, *flags, *from, a, *to, tail),
         Inst::Phi { ty, entries, tail } => Ok(RawInst::Phi {
             ty: *ty,
             entries: raw_entries(alloc, names, tables, entries.as_slice())?,

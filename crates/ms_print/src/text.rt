@@ -1,10 +1,9 @@
 // The text of a function.
 ghost use Rattle.std.specs.Prelude.{◌≡◌, ◌<◌, ◌++◌, [], ℕ, length, drop, slice_index_or, OnOk, IfOk};
 ghost use Rattle.ms_ir.specs.Func.{insts_at, no_block, placed_as};
-ghost use Rattle.ms_grammar.specs.Form.{printed};
 ghost use Rattle.ms_print.specs.Lines.{shown_by, define_with, inst_line, term_line};
 ghost use Rattle.ms_print.specs.Notes.{note_by};
-ghost use Rattle.ms_print.specs.Text.{ended, note_at, insts_text, label_text, block_text, blocks_text, func_text};
+ghost use Rattle.ms_print.specs.Text.{ended, line_text, note_at, insts_text, label_text, block_text, blocks_text, func_text};
 
 use crate::lines::{label, raw_inst, raw_term, result_name};
 use crate::notes::{Note, Notes, note_table};
@@ -31,8 +30,9 @@ pub fn push_text(out: &mut Vec<u8>, text: &Text) -> Result<(), NoMemory>
     Ok(())
 }
 
+#[tactic(auto, unfolding(crate::specs::Text::line_text))]
 fn push_line(out: &mut Vec<u8>, line: &Line) -> Result<(), NoMemory>
-    ensures { OnOk result (out.new.items ≡ out.old.items ++ ended (printed line.now)) }
+    ensures { OnOk result (out.new.items ≡ out.old.items ++ line_text line.now) }
 {
     let mut text = Text::new(*out.allocator());
     write_line(line, &mut text)?;
@@ -80,7 +80,7 @@ fn push_inst_line(
     node: &Node,
 ) -> Result<(), NoMemory>
     ensures { OnOk result (out.new.items ≡ out.old.items
-        ++ ended (printed (inst_line (shown_by names.now tables.now) (placed_as number.0 node.now)))) }
+        ++ line_text (inst_line (shown_by names.now tables.now) (placed_as number.0 node.now))) }
 {
     let alloc = *out.allocator();
     let name = result_name(alloc, tables, node.result)?;
@@ -132,7 +132,7 @@ fn push_label(out: &mut Vec<u8>, tables: &Tables, b: BlockNo, name: &Name) -> Re
 }
 
 fn push_term(out: &mut Vec<u8>, names: &Names, tables: &Tables, term: &Term) -> Result<(), NoMemory>
-    ensures { OnOk result (out.new.items ≡ out.old.items ++ ended (printed (term_line (shown_by names.now tables.now) term.now))) }
+    ensures { OnOk result (out.new.items ≡ out.old.items ++ line_text (term_line (shown_by names.now tables.now) term.now)) }
 {
     let term = raw_term(*out.allocator(), names, tables, term)?;
     push_line(out, &Line::Term(term))?;
@@ -186,7 +186,7 @@ fn push_blocks(
 
 // A function's first line, with these parameters.
 fn push_define(out: &mut Vec<u8>, func: &Func, params: Params) -> Result<(), NoMemory>
-    ensures { OnOk result (out.new.items ≡ out.old.items ++ ended (printed (define_with func.now params))) }
+    ensures { OnOk result (out.new.items ≡ out.old.items ++ line_text (define_with func.now params)) }
 {
     let alloc = *out.allocator();
     let head = Head {

@@ -1,0 +1,17 @@
+pub mod Makers
+pub mod Shared
+pub mod Meets
+pub mod Reaching
+pub mod RootLemmas
+pub mod Queries
+pub mod Rings
+pub mod Sums
+pub mod Floods
+pub mod Counting
+pub mod Tabled
+pub mod Rooms
+pub mod Filled
+pub mod Renewed
+pub mod Locations
+pub mod Edits
+pub mod Same

@@ -1,0 +1,87 @@
+-- What an instruction reads and what it writes: bytes at a root, or all that some bases lead to.
+use Rattle.std.specs.Prelude.{◌≡◌, ◌⊎◌, ◌||◌, ℕ, ℤ, Bool, true, if◌then◌else◌, List, [], Some, Contains}
+use Rattle.ms_ir.specs.declared.names.Ty.{Ty}
+use Rattle.ms_ir.specs.declared.names.Ty.TheVariants.{I1, I8, I16, I32, I64, Ptr}
+use Rattle.ms_ir.specs.declared.names.InstNo.{InstNo}
+use Rattle.ms_ir.specs.declared.inst.Val.{Val}
+use Rattle.ms_ir.specs.declared.inst.Arg.{Arg}
+use Rattle.ms_ir.specs.declared.inst.Inst.{Inst}
+use Rattle.ms_ir.specs.declared.inst.Inst.TheVariants.{Load, Store, Copy, Call}
+use Rattle.ms_ir.specs.Func.{Placed, FuncState, IsAt}
+use Rattle.ms_alias.specs.declared.loc.Root.{Root}
+use Rattle.ms_alias.specs.declared.loc.Loc.{Loc}
+use Rattle.ms_alias.specs.declared.loc.Loc.TheVariants.{Bytes, ReadBy}
+use Rattle.ms_alias.specs.Roots.{HasRoot, pointer_of}
+use Rattle.ms_alias.specs.Bases.{Base, Alloca, Argument, Object, Outside, Hidden, HasBase, HasValBase, IsArgument}
+use Rattle.ms_alias.specs.Captured.{IsCaptured}
+
+-- so many bytes from an offset of a root on; or what a call reaches: all that these arguments lead to, and where the first flag
+-- is set the memory that it may know besides, where the second is set memory that no pointer reaches
+pub data Reach : Type 0 where
+  Span : (root : Root) (from : ℤ) (len : ℕ) → Reach
+  Called : (args : List Arg) (other hidden : Bool) → Reach
+
+-- the bytes of a value in memory; a pointer is in no memory here
+abbrev pub size_of : Ty → ℕ
+size_of I1 = 1
+size_of I8 = 1
+size_of I16 = 2
+size_of I32 = 4
+size_of I64 = 8
+size_of Ptr = 0
+
+-- so many bytes from where the value points to
+abbrev pub IsSpan : FuncState → Val → ℕ → Reach → Type 0
+IsSpan f v len u = (p : Root) × (pointer_of v ≡ Some p) × (r : Root) × (from : ℤ) × HasRoot f p r from × (u ≡ Span r from len)
+
+-- the instruction reads this
+abbrev pub IsRead : FuncState → Inst → Reach → Type 0
+IsRead f (Load ty ptr tail) u = IsSpan f ptr (size_of ty) u
+IsRead f (Copy to from len head tail) u = IsSpan f from.val len u
+IsRead f (Call callee ret args effects head tail) u = u ≡ Called (if effects.arg_read then args else []) effects.other_read effects.hidden_read
+IsRead f _ u = ⊥
+
+-- the instruction writes this
+abbrev pub IsWritten : FuncState → Inst → Reach → Type 0
+IsWritten f (Store ty val ptr tail) u = IsSpan f ptr (size_of ty) u
+IsWritten f (Copy to from len head tail) u = IsSpan f to.val len u
+IsWritten f (Call callee ret args effects head tail) u = u ≡ Called (if effects.arg_write then args else []) effects.other_write effects.hidden_write
+IsWritten f _ u = ⊥
+
+-- a location is its bytes, or what the instruction reads
+abbrev pub IsReachOf : FuncState → Loc → Reach → Type 0
+IsReachOf f (Bytes root from len) u = u ≡ Span root from len
+IsReachOf f (ReadBy j) u = (b : ℕ) × (place : ℕ) × (x : Placed) × IsAt f.blocks j.0 b place x × IsRead f x.inst u
+
+-- what a call may know besides its arguments: captured allocas, what came in as an argument, every global, and memory outside
+abbrev pub IsKnown : FuncState → Base → Type 0
+IsKnown f (Alloca l) = IsCaptured f l
+IsKnown f (Argument l) = IsArgument f l
+IsKnown f (Object g) = Unit {0}
+IsKnown f Outside = Unit {0}
+IsKnown f Hidden = ⊥
+
+-- the bases that are reached
+abbrev pub IsReached : FuncState → Reach → Base → Type 0
+IsReached f (Span root from len) b = HasBase f root b
+IsReached f (Called args other hidden) b = ((a : Arg) × Contains args a × HasValBase f a.val b) ⊎ ((other ≡ true) × IsKnown f b) ⊎ ((hidden ≡ true) × (b ≡ Hidden))
+
+-- the location that the instruction of number i reads
+abbrev pub IsLocRead : FuncState → InstNo → Inst → Loc → Type 0
+IsLocRead f i (Load ty ptr tail) loc = (p : Root) × (pointer_of ptr ≡ Some p) × (r : Root) × (from : ℤ) × HasRoot f p r from × (loc ≡ Bytes r from (size_of ty))
+IsLocRead f i (Copy to from len head tail) loc = (p : Root) × (pointer_of from.val ≡ Some p) × (r : Root) × (at : ℤ) × HasRoot f p r at × (loc ≡ Bytes r at len)
+IsLocRead f i (Call callee ret args effects head tail) loc = ((effects.arg_read || effects.other_read || effects.hidden_read) ≡ true) × (loc ≡ ReadBy i)
+IsLocRead f i _ loc = ⊥
+
+-- the bytes that a store or memcpy writes
+abbrev pub IsLocWritten : FuncState → Inst → Loc → Type 0
+IsLocWritten f (Store ty val ptr tail) loc = (p : Root) × (pointer_of ptr ≡ Some p) × (r : Root) × (from : ℤ) × HasRoot f p r from × (loc ≡ Bytes r from (size_of ty))
+IsLocWritten f (Copy to from len head tail) loc = (p : Root) × (pointer_of to.val ≡ Some p) × (r : Root) × (at : ℤ) × HasRoot f p r at × (loc ≡ Bytes r at len)
+IsLocWritten f _ loc = ⊥
+
+-- the instruction of number i reads, or writes, this location
+abbrev pub ReadsLoc : FuncState → InstNo → Loc → Type 0
+ReadsLoc f i loc = (b : ℕ) × (place : ℕ) × (x : Placed) × IsAt f.blocks i.0 b place x × IsLocRead f i x.inst loc
+
+abbrev pub WritesLoc : FuncState → InstNo → Loc → Type 0
+WritesLoc f i loc = (b : ℕ) × (place : ℕ) × (x : Placed) × IsAt f.blocks i.0 b place x × IsLocWritten f x.inst loc

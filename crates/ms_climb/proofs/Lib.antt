@@ -1,0 +1,10 @@
+pub mod Options
+pub mod ChainLemmas
+pub mod WalkLemmas
+pub mod SkipLemmas
+pub mod Insts
+pub mod Events
+pub mod Answered
+pub mod Resolved
+pub mod NearLemmas
+pub mod Shapes

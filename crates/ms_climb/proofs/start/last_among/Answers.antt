@@ -1,0 +1,23 @@
+use Rattle.std.proofs.Common.{◌<◌, ◌∙◌, ap, sym, subst, arith, length, Some, None}
+use Rattle.ms_ir.specs.Func.{insts_at}
+use Rattle.ms_build.specs.Filled.{last_step}
+use Rattle.ms_climb.proofs.Insts.{IsCursor, IsHere, here, not_past, last_next}
+use Rattle.ms_climb.proofs.start.last_among.Goals as goal
+use Rattle.ms_climb.proofs.start.last_among.Goals.{in-Some, in_default}
+
+pub loop-place-preserved : goal.loop-place-preserved
+loop-place-preserved c =
+    let blocks = c.args.func.now.blocks in
+    let b = c.args.b.0 in
+    let k = c.loop-place.place in
+    elim c.match-at.branch [
+      | in-Some w ↦
+          let cursor : IsCursor blocks b k (Some w.in-Some.i) = subst (IsCursor blocks b k) w.in-Some.is c.loop-place.invariant.1 in
+          let h : IsHere blocks b k w.in-Some.i = here blocks b k w.in-Some.i c.requires.block cursor in (
+            w.last-is ∙ w.last_after-last.ensures b k h.x h.at ∙ ap (λ l. last_step l h.x) c.loop-place.invariant.0 ∙ sym (last_next None (insts_at blocks b) k h.x h.at.found),
+            rw w.at-is (w.next_inst-at.ensures.there b k h.x h.at),
+          )
+      | in_default w ↦
+          let lt : k < length (insts_at blocks b) = (let t = c.loop-place-test.true in let n = c.requires.count in omega arith) in
+          absurd (not_past blocks b k lt (subst (IsCursor blocks b k) w.in_default.is c.loop-place.invariant.1))
+    ]
