@@ -114,11 +114,12 @@ pub marks_differ : (t : BasesState) (f g : FuncState) (P Q : LocalNo → Type 0)
     → ((c : ℕ) → get_or new c false ≡ true → (a : LocalNo) × (slice_get t.columns c ≡ Some (Local a)) × Q a) → ((l : LocalNo) → Q l → (c : ℕ) × IsColumn t (Local l) c × (get_or new c false ≡ true))
     → (r : Bool) → (r ≡ true) ↔ MarkOthers t old new → (r ≡ true) ↔ Differ P Q
 marks_differ t f g P Q old new rf rg ps pc qs qc r told = (
-      λ e. let m = told.0 e in (m.0, differs (caught_at old (set_of t (Local m.0))) (caught_at new (set_of t (Local m.0))) (P m.0) (Q m.0) (was m.0) (is m.0) m.1),
-      λ d. told.1 (d.0, differ_back (caught_at old (set_of t (Local d.0))) (caught_at new (set_of t (Local d.0))) (P d.0) (Q d.0) (was d.0) (is d.0) d.1),
-    ) where
+  λ e. let m = told.0 e in (m.0, differs (caught_at old (set_of t (Local m.0))) (caught_at new (set_of t (Local m.0))) (P m.0) (Q m.0) (was m.0) (is m.0) m.1),
+  λ d. told.1 (d.0, differ_back (caught_at old (set_of t (Local d.0))) (caught_at new (set_of t (Local d.0))) (P d.0) (Q d.0) (was d.0) (is d.0) d.1),
+) where
   was : (l : LocalNo) → (caught_at old (set_of t (Local l)) ≡ true) ↔ P l
   was l = (caught_from t f l P old (set_of t (Local l)) (rf.sets l) ps, λ p. let c = pc l p in ap (caught_at old) c.1 ∙ c.2)
+
   is : (l : LocalNo) → (caught_at new (set_of t (Local l)) ≡ true) ↔ Q l
   is l = (caught_from t g l Q new (set_of t (Local l)) (rg.sets l) qs, λ p. let c = qc l p in ap (caught_at new) c.1 ∙ c.2)
 

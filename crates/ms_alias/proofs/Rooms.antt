@@ -55,12 +55,12 @@ first_of p (x ∷ xs) d (suc c) h t =
     ⊎_elim
     (λ (here : p x ≡ true). (zero, (omega arith), here, λ k lt. absurd (omega arith)))
     (λ (not_here : p x ≡ false).
-      let rest = first_of p xs d c (omega arith) t in
-      (suc rest.0, (let lt = rest.1 in omega (arith, lt)), rest.2, before rest.0 rest.3 not_here))
+    let rest = first_of p xs d c (omega arith) t in
+    (suc rest.0, (let lt = rest.1 in omega (arith, lt)), rest.2, before rest.0 rest.3 not_here))
     (cases_Bool (p x)) where
-  before : (i : ℕ) → ((k : ℕ) → k < i → p (get_or xs k d) ≡ false) → p x ≡ false → (k : ℕ) → k < suc i → p (get_or (x ∷ xs) k d) ≡ false
-  before i all n zero lt = n
-  before i all n (suc k) lt = all k (omega arith)
+      before : (i : ℕ) → ((k : ℕ) → k < i → p (get_or xs k d) ≡ false) → p x ≡ false → (k : ℕ) → k < suc i → p (get_or (x ∷ xs) k d) ≡ false
+      before i all n zero lt = n
+      before i all n (suc k) lt = all k (omega arith)
 
 placed : {A : Type 0} (p : A → Bool) (xs : List A) (d : A) (c : ℕ) → c < length xs → p (get_or xs c d) ≡ true → (i : ℕ) × (position p xs ≡ Some i)
 placed p xs d c h t =
@@ -182,14 +182,14 @@ kinds_push : (f : FuncState) (l : ℕ) (columns : List Root) (sets : List Set) (
 kinds_push f l columns sets s old new = record {
   len = (let n = length-append sets (s ∷ []) in let k = old.len in omega (arith, n, k));
   each = λ k h. ⊎_elim
-    (λ (e : k ≡ l).
+      (λ (e : k ≡ l).
       let here : get_or (sets ++ s ∷ []) k Nothing ≡ s = ap (λ j. get_or (sets ++ s ∷ []) j Nothing) (e ∙ sym old.len) ∙ get_or-append_seam sets s [] Nothing in
       let P : ℕ → Set → Type 0 = λ j u. IsKindIn columns f (record { 0 = j }) u in
       subst (P k) (sym here) (subst (λ j. P j s) (sym e) new))
-    (λ (n : k ≡ l → ⊥).
+      (λ (n : k ≡ l → ⊥).
       let lt : k < length sets = (let size = old.len in omega (arith, n, size)) in
       subst (IsKindIn columns f (record { 0 = k })) (sym (get_or_append_left sets (s ∷ []) Nothing k lt)) (old.each k (omega (arith, n))))
-    (cases_eq k l);
+      (cases_eq k l);
 }
 
 pub kinds_plain : (f : FuncState) (l column : ℕ) (columns : List Root) (sets sets' : List Set) (s : Set) → AreKinds f l columns sets → IsKindAt column f (record { 0 = l }) s → ((c : ℕ) → s ≡ Alloca c → ⊥) → sets' ≡ sets ++ s ∷ [] → AreKinds f (l + 1) columns sets'
@@ -210,10 +210,10 @@ none_beyond f n l ge =
     ⊎_elim
     (λ (e : maker_of f l ≡ None). e)
     (λ (some : (m : Maker) × (maker_of f l ≡ Some m)).
-      let there = maker_in_blocks 0 f.blocks l some.0 some.1 in
-      let range = n.result_range l there.0 there.1 there.2 (record { found = there.4; gives = giver_from l there.2 there.5 }) in
-      let lt = range.1 in
-      absurd (omega (arith, lt)))
+    let there = maker_in_blocks 0 f.blocks l some.0 some.1 in
+    let range = n.result_range l there.0 there.1 there.2 (record { found = there.4; gives = giver_from l there.2 there.5 }) in
+    let lt = range.1 in
+    absurd (omega (arith, lt)))
     (cases_Option (maker_of f l))
 
 for_kind : (f : FuncState) (t : BasesState) (l : LocalNo) (old more : List Root) (s : Set) → t.columns ≡ old ++ more → IsKindIn old f l s → ((k : ℕ) → s ≡ Brought k → length (row_of t k).bits ≡ length t.columns) → IsFor t f l s
@@ -230,16 +230,16 @@ room_sets : (f : FuncState) → IsNumbered f → (t : BasesState) (one : List Ro
 room_sets f n t one kinds longer made l =
     ⊎_elim
     (λ (lt : l.0 < f.locals).
-      for_kind f t l one longer.0 (set_of t (Local l)) longer.1 (kinds.each l.0 lt)
-      (λ k e.
-        let kind = subst (IsKindIn one f l) e (kinds.each l.0 lt) in
-        let within : l.0 < length t.sets = (let size = kinds.len in omega (arith, size)) in
-        let row : length (row_of t l.0).bits ≡ length t.columns = made.1 l.0 within ∙ ap (row_len (length t.columns)) e in
-        ap (λ j. length (row_of t j).bits) kind.0 ∙ row))
+    for_kind f t l one longer.0 (set_of t (Local l)) longer.1 (kinds.each l.0 lt)
+    (λ k e.
+    let kind = subst (IsKindIn one f l) e (kinds.each l.0 lt) in
+    let within : l.0 < length t.sets = (let size = kinds.len in omega (arith, size)) in
+    let row : length (row_of t l.0).bits ≡ length t.columns = made.1 l.0 within ∙ ap (row_len (length t.columns)) e in
+    ap (λ j. length (row_of t j).bits) kind.0 ∙ row))
     (λ (ge : f.locals ≤ l.0).
-      let far : length t.sets ≤ l.0 = (let size = kinds.len in omega (arith, size)) in
-      let none : (maker_of f l ≡ None) × (IsArgument f l → ⊥) = (none_beyond f n l ge, λ h. let below = slice_get_within f.params l.0 h.0 h.1 in let first = n.params_first in omega (arith, below)) in
-      subst (IsFor t f l) (sym (get_or_past t.sets l.0 Nothing far)) none)
+    let far : length t.sets ≤ l.0 = (let size = kinds.len in omega (arith, size)) in
+    let none : (maker_of f l ≡ None) × (IsArgument f l → ⊥) = (none_beyond f n l ge, λ h. let below = slice_get_within f.params l.0 h.0 h.1 in let first = n.params_first in omega (arith, below)) in
+    subst (IsFor t f l) (sym (get_or_past t.sets l.0 Nothing far)) none)
     (cases_lt l.0 f.locals)
 
 room_globals : (f : FuncState) → IsNumbered f → (t : BasesState) → HaveFirst f f.locals t.columns → (p : Root) (g : GlobalNo) → Contains (leads_of f p) (Global g) → (c : ℕ) × (global_column t g ≡ Some c)

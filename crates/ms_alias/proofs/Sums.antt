@@ -69,6 +69,7 @@ way_more f l m sum marks s w free e lt new near = record {
   no_end : IsEnd f (local m) → ⊥
   no_end (inl none) = let both : Some s ≡ None = sym e ∙ none in cc
   no_end (inr ring) = free ring
+
   before : (x : ℕ) → get_or marks x false ≡ true → (n : ℕ) × LeadsBack f (suc n) (local x) s.base
   before x h = let old = w.met x h in (suc old.0, leads_more f (suc old.0) (local x) (local m) s old.1 e)
 

@@ -92,7 +92,14 @@ impl Session {
     {
         ms_flow::same_paths();
         ms_flow::order_told();
-        let text = annotated(self.alloc, names, &self.func, &self.flow, &self.form, &self.alias)?;
+        let text = annotated(
+            self.alloc,
+            names,
+            &self.func,
+            &self.flow,
+            &self.form,
+            &self.alias,
+        )?;
         let walks = count_uses(&self.func, &self.flow);
         Ok(Printed { text, walks })
     }
@@ -104,7 +111,15 @@ impl Session {
         ensures walked { IfOk result (λ found. found.walked ≡ true) }
         ensures same { self.new ≡ self.old }
     {
-        let access = walk(self.alloc, &self.func, &self.flow, &self.form, &self.alias, i, loc)?;
+        let access = walk(
+            self.alloc,
+            &self.func,
+            &self.flow,
+            &self.form,
+            &self.alias,
+            i,
+            loc,
+        )?;
         Ok(Found {
             access,
             walked: true,

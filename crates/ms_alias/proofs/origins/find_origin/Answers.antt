@@ -27,10 +27,10 @@ returns-then-m-len-clause-root c =
     let way = way_at f c.args.l c.walk.at c.in-Local.m (to_z w64 c.walk.sum-bits) c.walk.marks c.in-Local.is c.walk.invariant.0 in
     let same = c.walk.invariant.1 in
     elim c.then-m-len.branch [
-      then-m-len-via-then-m-len w ↦
-        way_ends f c.args.l (Local c.in-Local.m) (to_z w64 c.walk.sum-bits) c.walk.marks way (inl (ap step_by_maker (c.requires.beyond c.in-Local.m (let t = w.if-m-len.true in let k = c.len.ensures.len in let s = c.requires.same in omega arith))))
+      | then-m-len-via-then-m-len w ↦
+          way_ends f c.args.l (Local c.in-Local.m) (to_z w64 c.walk.sum-bits) c.walk.marks way (inl (ap step_by_maker (c.requires.beyond c.in-Local.m (let t = w.if-m-len.true in let k = c.len.ensures.len in let s = c.requires.same in omega arith))))
       | then-m-len-via-else-m-len+then-has w ↦
-        way_ends f c.args.l (Local c.in-Local.m) (to_z w64 c.walk.sum-bits) c.walk.marks way (inr ((c.requires.rings.each c.in-Local.m).0 (sym w.has.ensures ∙ w.if-has.true)))
+          way_ends f c.args.l (Local c.in-Local.m) (to_z w64 c.walk.sum-bits) c.walk.marks way (inr ((c.requires.rings.each c.in-Local.m).0 (sym w.has.ensures ∙ w.if-has.true)))
     ]
 
 pub returns-in-None-clause-root : goal.returns-in-None-clause-root
