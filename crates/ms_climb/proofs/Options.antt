@@ -21,3 +21,6 @@ free_set (Some y ∷ xs) (suc i) x lt e = free_set xs i x (omega arith) e
 pub if_ok : {A E : Type 0} (P Q : A → Type 0) (r : Result A E) → ((x : A) → P x → Q x) → IfOk r P → IfOk r Q
 if_ok P Q (Ok x) f h = f x h
 if_ok P Q (Err e) f h = tt
+
+pub free_falls : {A : Type 0} (xs : List (Option A)) (i : ℕ) (x : A) → i < length xs → get_or xs i None ≡ None → free (set xs i (Some x)) < free xs
+free_falls xs i x lt e = let r = free_set xs i x lt e in omega arith

@@ -1,21 +1,18 @@
-use Rattle.std.proofs.Common.{◌≡◌, ap, arith}
-use Rattle.ms_climb.specs.declared.chains.Mark.TheVariants.{Counts, Passed}
+use Rattle.std.proofs.Common.{◌≡◌, ap}
 use Rattle.ms_climb.specs.Chains.{ChainsState}
-use Rattle.ms_climb.proofs.Options.{free_set}
+use Rattle.ms_climb.proofs.Options.{free_falls}
 use Rattle.ms_climb.proofs.ChainLemmas.{climb_ended}
 use Rattle.ms_climb.proofs.chains.Chains.climb.Goals as goal
 
 pub climbing-smaller-then-writes : goal.climbing-smaller-then-writes
 climbing-smaller-then-writes g c =
     let same : c.self-in-climbing.inside.marks.items ≡ c.climbing.self.marks = ap (λ (s : ChainsState). s.marks) c.self-in-climbing.view_is in
-    let less = free_set c.climbing.self.marks c.in-Some.i.0 Counts c.in-Some.ensures.1 c.in-Some.ensures.2 in
-    rw same (omega arith)
+    rw same (free_falls c.climbing.self.marks c.in-Some.i.0 _ c.in-Some.ensures.1 c.in-Some.ensures.2)
 
 pub climbing-smaller : goal.climbing-smaller
 climbing-smaller g c =
     let same : c.self-in-climbing.inside.marks.items ≡ c.climbing.self.marks = ap (λ (s : ChainsState). s.marks) c.self-in-climbing.view_is in
-    let less = free_set c.climbing.self.marks c.in-Some.i.0 (Passed c.len-chain.result) c.in-Some.ensures.1 c.in-Some.ensures.2 in
-    rw same (omega arith)
+    rw same (free_falls c.climbing.self.marks c.in-Some.i.0 _ c.in-Some.ensures.1 c.in-Some.ensures.2)
 
 pub returns : goal.returns
 returns g c =
