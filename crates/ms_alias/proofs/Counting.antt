@@ -17,9 +17,9 @@ use Rattle.ms_alias.specs.declared.loc.Root.TheVariants.{Local, Global}
 use Rattle.ms_alias.specs.declared.sets.Set.{Set}
 use Rattle.ms_alias.specs.declared.sets.Set.TheVariants.{Nothing, Argument, Alloca, Object, Brought}
 use Rattle.ms_alias.specs.Roots.{pointer_of}
-use Rattle.ms_alias.specs.Captured.{args_of}
+use Rattle.ms_alias.specs.Captured.{args_of, skips}
 use Rattle.ms_alias.specs.Tables.{BasesState, set_of, set_of_option, val_set}
-use Rattle.ms_alias.specs.Building.{Adds, HaveColumns, IsAllocaOf, IsKeptBy, IsKeptAt, IsCountedAs, skips}
+use Rattle.ms_alias.specs.Building.{Adds, HaveColumns, IsAllocaOf, IsKeptBy, IsKeptAt, IsCountedAs}
 use Rattle.ms_alias.proofs.Makers.{not_nowhere}
 
 pub val_columns : (t : BasesState) → HaveColumns t → (v : Val) (c : ℕ) → val_set t v ≡ Alloca c → c < length t.columns

@@ -12,3 +12,6 @@ pub mod Tabled
 pub mod Rooms
 pub mod Filled
 pub mod Renewed
+pub mod Locations
+pub mod Edits
+pub mod Same

@@ -25,7 +25,7 @@ use Rattle.ms_alias.proofs.Makers.{not_nowhere}
 use Rattle.ms_alias.proofs.RootLemmas.{one_root, origin_told, turning_from, turning_to, read_from, read_to, written_from, written_to}
 use Rattle.ms_alias.proofs.Reaching.{reaches_from, reaches_to, root_is, root_same}
 
-abbrev Somewhere : List Block → ℕ → (Placed → Type 0) → Type 0
+abbrev pub Somewhere : List Block → ℕ → (Placed → Type 0) → Type 0
 Somewhere blocks n P = (b : ℕ) × (place : ℕ) × (x : Placed) × IsAt blocks n b place x × P x
 
 gone : (blocks : List Block) (n : ℕ) (P : Placed → Type 0) → IsNowhere blocks n → Somewhere blocks n P → ⊥
@@ -108,11 +108,11 @@ writes_told f a is i inst found each r e loc = (
       λ h. e ∙ ap (written_loc a.origins) (sym (each h.0 h.1 h.2 h.3)) ∙ loc_written_to f a.origins h.2.inst loc is.origins h.4,
     )
 
-reach_from : (f : FuncState) (origins : List Origin) (loc : Loc) (u : Reach) → IsOrigins f origins → IsReachBy f origins loc u → IsReachOf f loc u
+pub reach_from : (f : FuncState) (origins : List Origin) (loc : Loc) (u : Reach) → IsOrigins f origins → IsReachBy f origins loc u → IsReachOf f loc u
 reach_from f origins (Bytes root from len) u is h = h
 reach_from f origins (ReadBy j) u is h = (h.0, h.1, h.2, h.3, read_from f origins h.2.inst u is h.4)
 
-reach_to : (f : FuncState) (origins : List Origin) (loc : Loc) (u : Reach) → IsOrigins f origins → IsReachOf f loc u → IsReachBy f origins loc u
+pub reach_to : (f : FuncState) (origins : List Origin) (loc : Loc) (u : Reach) → IsOrigins f origins → IsReachOf f loc u → IsReachBy f origins loc u
 reach_to f origins (Bytes root from len) u is h = h
 reach_to f origins (ReadBy j) u is h = (h.0, h.1, h.2, h.3, read_to f origins h.2.inst u is h.4)
 

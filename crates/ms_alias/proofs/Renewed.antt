@@ -1,6 +1,8 @@
 -- Tables that were found afresh are the function's.
 use Rattle.std.proofs.Common.{◌≡◌, ◌<◌, ◌≤◌, ◌+◌, ◌⊎◌, ◌↔◌, ℕ, zero, suc, Bool, true, false, List, [], ◌∷◌, Option, Some, None, length, get_or, refl, sym, ap, ◌∙◌, subst, inl, inr, ⊎_elim, arith}
-use Rattle.std.specs.Prelude.{slice_get, Contains}
+use mathlib.Core.Bool.{beq}
+use Rattle.std.specs.Prelude.{slice_get, Contains, ◌≢◌, not}
+use Rattle.std.proofs.lemmas.Bool.{false≢true}
 use Rattle.std.proofs.lemmas.Option.{slice_get_within}
 use Rattle.std.proofs.lemmas.List.{get_or_past}
 use Rattle.ms_ir.specs.declared.names.LocalNo.{LocalNo}
@@ -15,9 +17,9 @@ use Rattle.ms_alias.specs.declared.sets.Set.{Set}
 use Rattle.ms_alias.specs.declared.sets.Set.TheVariants.{Nothing, Argument, Alloca, Object, Brought}
 use Rattle.ms_alias.specs.Roots.{Maker, maker_of, pointer_of}
 use Rattle.ms_alias.specs.Bases.{Base, Alloca as AllocaBase, Argument as ArgumentBase, Object as ObjectBase, HasBase, HasValBase}
-use Rattle.ms_alias.specs.Captured.{args_of, IsCaptured, IsKept}
-use Rattle.ms_alias.specs.Tables.{BasesState, set_of, set_of_option, val_set, row_of, bit_of, base_of, IsColumn, IsFor, IsSet, IsBases, IsCaptures, HasRoom}
-use Rattle.ms_alias.specs.Building.{IsBeyond, HaveColumns, IsAllocaOf, IsKeptAt, IsCountedAs, IsCountedAt, AreCounted, skips}
+use Rattle.ms_alias.specs.Captured.{args_of, skips, IsCaptured, IsCapturedBut, IsKept, Differ}
+use Rattle.ms_alias.specs.Tables.{BasesState, set_of, set_of_option, val_set, row_of, bit_of, base_of, IsColumn, IsFor, IsSet, IsBases, IsCaptures, IsCapturesBut, HasRoom, caught_at}
+use Rattle.ms_alias.specs.Building.{IsBeyond, HaveColumns, IsAllocaOf, IsKeptAt, IsCountedAs, IsCountedAt, AreCounted, MarkOthers}
 use Rattle.ms_alias.proofs.Reaching.{set_told}
 
 -- where no set is, no instruction makes the local
@@ -27,10 +29,6 @@ room_beyond t f room l ge = (subst (IsFor t f l) (get_or_past t.sets l.0 Nothing
 pub room_columns : (t : BasesState) (f : FuncState) → HasRoom t f → HaveColumns t
 room_columns t f room (Local l) c e = let kind = subst (IsFor t f l) e (room.sets l) in slice_get_within t.columns c (Local l) kind.0
 room_columns t f room (Global g) c e = absurd (let e' : Object g ≡ Alloca c = e in cc)
-
--- an instruction other than one, wherever it stands, passes a pointer to the alloca as an argument that the callee may keep
-abbrev pub IsCapturedBut : FuncState → Option InstNo → LocalNo → Type 0
-IsCapturedBut f skip l = (b : ℕ) × (place : ℕ) × (x : Placed) × (slice_get (insts_at f.blocks b) place ≡ Some x) × (skips skip x.number ≡ false) × IsKept f x.inst (AllocaBase l)
 
 alloca_from : (t : BasesState) (f : FuncState) (p : Root) (s : Set) (c : ℕ) → IsSet t f p s → IsAllocaOf t s c → (l : LocalNo) × (slice_get t.columns c ≡ Some (Local l)) × HasBase f p (AllocaBase l)
 alloca_from t f p Nothing c hs h = absurd h
@@ -86,3 +84,46 @@ counted_captures t f captured room is counted = record {
   sound = λ c e. let s = counted_sound t f None captured is counted c e in let h = s.2 in (s.0, s.1, (h.0, h.1, h.2, h.3, h.5));
   complete = λ l h. counted_complete t f None captured room is counted l (h.0, h.1, h.2, h.3, refl, h.4);
 }
+
+pub counted_but : (t : BasesState) (f : FuncState) (skip : Option InstNo) (captured : List Bool) → HasRoom t f → IsBases t f → AreCounted t f skip captured → IsCapturesBut t f skip captured
+counted_but t f skip captured room is counted = record { sound = counted_sound t f skip captured is counted; complete = counted_complete t f skip captured room is counted }
+
+-- the alloca of a set is marked
+caught_from : (t : BasesState) (f : FuncState) (l : LocalNo) (P : LocalNo → Type 0) (marks : List Bool) (s : Set) → IsFor t f l s
+    → ((c : ℕ) → get_or marks c false ≡ true → (a : LocalNo) × (slice_get t.columns c ≡ Some (Local a)) × P a) → caught_at marks s ≡ true → P l
+caught_from t f l P marks (Alloca c) h sound e =
+    let there = sound c e in
+    let same : Some (Local there.0) ≡ Some (Local l) = sym there.1 ∙ h.0 in
+    let one : there.0 ≡ l = cc in
+    subst P one there.2
+caught_from t f l P marks s h sound e = absurd (false≢true e)
+
+differs : (a b : Bool) (P Q : Type 0) → ((a ≡ true) ↔ P) → ((b ≡ true) ↔ Q) → (a ≢ b) → (P × (Q → ⊥)) ⊎ (Q × (P → ⊥))
+differs true true P Q p q ne = absurd (ne refl)
+differs true false P Q p q ne = inl (p.0 refl, λ x. false≢true (q.1 x))
+differs false true P Q p q ne = inr (q.0 refl, λ x. false≢true (p.1 x))
+differs false false P Q p q ne = absurd (ne refl)
+
+differ_back : (a b : Bool) (P Q : Type 0) → ((a ≡ true) ↔ P) → ((b ≡ true) ↔ Q) → (P × (Q → ⊥)) ⊎ (Q × (P → ⊥)) → a ≢ b
+differ_back a b P Q p q (inl h) e = h.1 (q.0 (sym e ∙ p.1 h.0))
+differ_back a b P Q p q (inr h) e = h.1 (p.0 (e ∙ q.1 h.0))
+
+-- the marks differ where the captured allocas do
+pub marks_differ : (t : BasesState) (f g : FuncState) (P Q : LocalNo → Type 0) (old new : List Bool) → HasRoom t f → HasRoom t g
+    → ((c : ℕ) → get_or old c false ≡ true → (a : LocalNo) × (slice_get t.columns c ≡ Some (Local a)) × P a) → ((l : LocalNo) → P l → (c : ℕ) × IsColumn t (Local l) c × (get_or old c false ≡ true))
+    → ((c : ℕ) → get_or new c false ≡ true → (a : LocalNo) × (slice_get t.columns c ≡ Some (Local a)) × Q a) → ((l : LocalNo) → Q l → (c : ℕ) × IsColumn t (Local l) c × (get_or new c false ≡ true))
+    → (r : Bool) → (r ≡ true) ↔ MarkOthers t old new → (r ≡ true) ↔ Differ P Q
+marks_differ t f g P Q old new rf rg ps pc qs qc r told = (
+      λ e. let m = told.0 e in (m.0, differs (caught_at old (set_of t (Local m.0))) (caught_at new (set_of t (Local m.0))) (P m.0) (Q m.0) (was m.0) (is m.0) m.1),
+      λ d. told.1 (d.0, differ_back (caught_at old (set_of t (Local d.0))) (caught_at new (set_of t (Local d.0))) (P d.0) (Q d.0) (was d.0) (is d.0) d.1),
+    ) where
+  was : (l : LocalNo) → (caught_at old (set_of t (Local l)) ≡ true) ↔ P l
+  was l = (caught_from t f l P old (set_of t (Local l)) (rf.sets l) ps, λ p. let c = pc l p in ap (caught_at old) c.1 ∙ c.2)
+  is : (l : LocalNo) → (caught_at new (set_of t (Local l)) ≡ true) ↔ Q l
+  is l = (caught_from t g l Q new (set_of t (Local l)) (rg.sets l) qs, λ p. let c = qc l p in ap (caught_at new) c.1 ∙ c.2)
+
+pub unequal : (a b : Bool) → not (beq a b) ≡ true → a ≡ b → ⊥
+unequal true true e h = false≢true e
+unequal true false e h = false≢true (sym h)
+unequal false true e h = false≢true h
+unequal false false e h = false≢true e

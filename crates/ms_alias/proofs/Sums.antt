@@ -15,7 +15,8 @@ use Rattle.ms_ir.specs.Func.{FuncState}
 use Rattle.ms_alias.specs.declared.loc.Root.{Root}
 use Rattle.ms_alias.specs.declared.loc.Root.TheVariants.{Local, Global}
 use Rattle.ms_alias.specs.Roots.{Step, step_of, step_by_maker, maker_of, LeadsBack, IsRing, IsEnd, IsRootAfter, HasRoot}
-use Rattle.ms_alias.specs.Building.{IsBeyond, IsNear, HasNearSteps, AreRings, greatest_offset}
+use Rattle.ms_alias.specs.Building.{AreRings}
+use Rattle.ms_alias.specs.Offsets.{IsNear, greatest_offset}
 use Rattle.ms_alias.proofs.Rings.{local, leads_more, get_or-replicate}
 
 -- So far getelementptrs led from a local to a pointer, over marked locals, and their bytes sum up so.

@@ -1,30 +1,18 @@
 -- What the tables are made from.
-use Rattle.std.specs.Prelude.{◌≡◌, ◌≤◌, ◌↔◌, ◌≤ℤ◌, ◌-ℤ◌, ◌+◌, ◌++◌, ℕ, ℤ, pos, Bool, true, false, if◌then◌else◌, List, [], ◌∷◌, length, Option, Some, None, slice_index_or, slice_set, nat_lt, replicate, ◌<◌, ◌⊎◌, ◌==◌, slice_get, Contains, position}
+use Rattle.std.specs.Prelude.{◌≡◌, ◌≢◌, ◌≤◌, ◌↔◌, ◌≤ℤ◌, ◌-ℤ◌, ◌+◌, ◌++◌, ℕ, ℤ, pos, Bool, true, false, if◌then◌else◌, List, [], ◌∷◌, length, Option, Some, None, slice_index_or, slice_set, nat_lt, replicate, ◌<◌, ◌⊎◌, ◌==◌, slice_get, Contains, position}
 use Rattle.ms_ir.specs.declared.names.LocalNo.{LocalNo}
 use Rattle.ms_ir.specs.declared.names.InstNo.{InstNo}
 use Rattle.ms_ir.specs.declared.names.GlobalNo.{GlobalNo}
 use Rattle.ms_ir.specs.declared.inst.Arg.{Arg}
 use Rattle.ms_ir.specs.Func.{Placed, FuncState, IsAt}
-use Rattle.ms_alias.specs.Captured.{args_of}
+use Rattle.ms_alias.specs.Captured.{args_of, skips}
 use Rattle.ms_alias.specs.declared.loc.Root.{Root}
 use Rattle.ms_alias.specs.declared.loc.Root.TheVariants.{Local, Global}
 use Rattle.ms_alias.specs.declared.sets.Set.{Set}
 use Rattle.ms_alias.specs.declared.sets.Set.TheVariants.{Nothing, Argument, Alloca, Object, Brought}
 use Rattle.ms_alias.specs.Roots.{Maker, Step, is_alloca, maker_of, step_by_maker, IsRing}
 use Rattle.ms_alias.specs.Bases.{leads_of, IsArgument}
-use Rattle.ms_alias.specs.Tables.{RowState, no_row, same_root, BasesState, set_of, global_column, row_of, bit_of, val_set}
-
--- the bytes of one getelementptr are at most so many either way
-abbrev pub IsNear : ℕ → ℤ → Type 0
-IsNear limit z = ((pos 0 -ℤ pos limit) ≤ℤ z) × (z ≤ℤ pos limit)
-
--- the greatest offset of one getelementptr, either way
-abbrev pub greatest_offset : ℕ
-greatest_offset = 2147483648
-
--- no getelementptr's offset passes its limit
-abbrev pub HasNearSteps : FuncState → Type 0
-HasNearSteps f = (l : LocalNo) (s : Step) → step_by_maker (maker_of f l) ≡ Some s → IsNear greatest_offset s.bytes
+use Rattle.ms_alias.specs.Tables.{RowState, no_row, same_root, BasesState, set_of, global_column, row_of, bit_of, val_set, caught_at}
 
 -- no local from this number on is a pointer that an instruction makes
 abbrev pub IsBeyond : FuncState → ℕ → Type 0
@@ -115,11 +103,6 @@ IsKeptBy t a c = (a.keeps ≡ true) × IsAllocaOf t (val_set t a.val) c
 abbrev pub IsKeptAt : BasesState → List Arg → ℕ → Type 0
 IsKeptAt t args c = (a : Arg) × Contains args a × IsKeptBy t a c
 
--- the number is the one that is left out
-abbrev pub skips : Option InstNo → ℕ → Bool
-skips None i = false
-skips (Some s) i = s.0 == i
-
 -- an instruction of this number, which is not the one that is left out, keeps the alloca of the column
 abbrev pub IsCountedAs : BasesState → FuncState → Option InstNo → ℕ → ℕ → Type 0
 IsCountedAs t f skip i c = (b : ℕ) × (place : ℕ) × (x : Placed) × IsAt f.blocks i b place x × (skips skip i ≡ false) × IsKeptAt t (args_of x.inst) c
@@ -173,3 +156,7 @@ row_len columns _ = 0
 
 abbrev pub HaveRows : List Set → ℕ → List RowState → Type 0
 HaveRows sets columns rows = (length rows ≡ length sets) × ((k : ℕ) → k < length sets → length (slice_index_or rows k no_row).bits ≡ row_len columns (slice_index_or sets k Nothing))
+
+-- by the marks of two lists one and the same alloca is captured and is not
+abbrev pub MarkOthers : BasesState → List Bool → List Bool → Type 0
+MarkOthers t old new = (l : LocalNo) × (caught_at old (set_of t (Local l)) ≢ caught_at new (set_of t (Local l)))

@@ -5,3 +5,4 @@ pub mod Reaches
 pub mod Roots
 pub mod Tables
 pub mod Building
+pub mod Offsets

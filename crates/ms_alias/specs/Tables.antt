@@ -21,7 +21,7 @@ use Rattle.ms_alias.specs.declared.sets.Set.TheVariants.{Nothing, Argument, Allo
 use Rattle.ms_alias.specs.declared.origins.Origin.{Origin}
 use Rattle.ms_alias.specs.Roots.{Maker, maker_of, is_alloca, pointer_of, HasRoot, IsTurning}
 use Rattle.ms_alias.specs.Bases.{Base, Alloca as AllocaBase, Argument as ArgumentBase, Object as ObjectBase, HasBase, IsArgument, leads_of}
-use Rattle.ms_alias.specs.Captured.{IsCaptured}
+use Rattle.ms_alias.specs.Captured.{IsCaptured, IsCapturedBut}
 use Rattle.ms_alias.specs.Reaches.{Reach, Span, Called, size_of, IsReachOf}
 use Rattle.ms_alias.specs.Meeting.{IsOuter}
 
@@ -320,3 +320,15 @@ pub record IsAliasOf (f : FuncState) (a : AliasState) : Type 0 where
 pub record IsReady (f : FuncState) (a : AliasState) : Type 0 where
   pub room : HasRoom a.bases f
   pub origins : IsOrigins f a.origins
+
+-- The same but for the captured allocas.
+pub record HasPointers (f : FuncState) (a : AliasState) : Type 0 where
+  pub room : HasRoom a.bases f
+  pub origins : IsOrigins f a.origins
+  pub turning : IsTurnings f a.turning
+  pub bases : IsBases a.bases f
+
+-- The marked columns are those of the captured allocas, where one instruction is left out.
+pub record IsCapturesBut (t : BasesState) (f : FuncState) (skip : Option InstNo) (captured : List Bool) : Type 0 where
+  pub sound : (c : ℕ) → slice_index_or captured c false ≡ true → (l : LocalNo) × (slice_get t.columns c ≡ Some (Local l)) × IsCapturedBut f skip l
+  pub complete : (l : LocalNo) → IsCapturedBut f skip l → (c : ℕ) × IsColumn t (Local l) c × (slice_index_or captured c false ≡ true)

@@ -2,7 +2,7 @@
 ghost use Rattle.std.specs.Prelude.{◌≡◌, ◌<◌, ◌≤◌, ◌+ℤ◌, ◌↔◌, ℕ, ℤ, pos, int_lt, IsTrue, IfOk, length, Some, None, if◌then◌else◌, [], slice_index_or, false};
 ghost use Rattle.ms_alias.specs.Tables.{ranges_meet, holds_byte};
 
-use crate::captures::recount;
+use crate::captures::{caught_at, mark_others, recount};
 use crate::flood::Flood;
 use crate::loc::{Loc, Root};
 use crate::maker::{pointer_of, size_of};
@@ -17,6 +17,7 @@ use ms_flow::Flow;
 use ms_ir::{Arg, Func, Inst, InstNo, LocalNo, NoMemory, Val};
 use std::alloc::Global;
 use std::marker::Model;
+use std::mem;
 
 /// The pointers of a function: their roots and offsets, their bases, which roots may change from turn to turn of a loop, and
 /// which allocas are captured.
@@ -83,18 +84,18 @@ fn holds_byte(from: i64, len: u32, byte: i64) -> bool
 impl Alias {
     ghost use Rattle.ms_ir.specs.Func.{FuncState};
     ghost use Rattle.ms_flow.specs.Table.{edges_of};
-    ghost use Rattle.ms_alias.specs.Building.{HasNearSteps};
+    ghost use Rattle.ms_alias.specs.Offsets.{AreOffsetsNear};
     ghost use Rattle.ms_alias.specs.Roots.{IsFixed};
-    ghost use Rattle.ms_alias.specs.Captured.{IsCaptured};
+    ghost use Rattle.ms_alias.specs.Captured.{Differ, IsCaptured, IsCapturedBut};
     ghost use Rattle.ms_alias.specs.Reaches.{Reach, ReadsLoc, WritesLoc};
     ghost use Rattle.ms_alias.specs.Meeting.{MayWrite, MayRead, MustWrite, IsOuter};
-    ghost use Rattle.ms_alias.specs.Tables.{AliasState, IsAliasOf, IsReady, origin_of, val_origin, is_turning, val_set, sets_meet, is_known, args_meet, call_meets, call_meets_args, are_known, calls_meet, spans_meet, reaches_meet, reach_of, reach_in, read_reach, write_reach, IsReachBy, IsReadBy, IsWrittenBy, span_at, meet_in, must_hold, bytes_at, read_loc, written_loc, caught_at, set_of, has_outer};
+    ghost use Rattle.ms_alias.specs.Tables.{AliasState, IsAliasOf, IsReady, HasPointers, IsCapturesBut, origin_of, val_origin, is_turning, val_set, sets_meet, is_known, args_meet, call_meets, call_meets_args, are_known, calls_meet, spans_meet, reaches_meet, reach_of, reach_in, read_reach, write_reach, IsReachBy, IsReadBy, IsWrittenBy, span_at, meet_in, must_hold, bytes_at, read_loc, written_loc, caught_at, set_of, has_outer};
 
     /// The pointers of a function. It takes all the memory that each other call needs. `Err` comes only where memory is wanting,
     /// or for 2^32 locals and more.
     pub fn of(alloc: Global, func: &Func, flow: &Flow) -> Result<Alias, NoMemory>
         requires flow { flow.now.graph ≡ edges_of func.now.blocks }
-        requires near { HasNearSteps func.now }
+        requires near { AreOffsetsNear func.now }
         ensures { IfOk result (λ a. IsAliasOf func.now a) }
     {
         let count = func.local_count();
@@ -128,6 +129,34 @@ impl Alias {
         find_turning(func, flow, &mut self.turning);
         fill_rows(func, &mut self.bases, &mut self.flood);
         recount(&self.bases, func, None, &mut self.captured);
+    }
+
+    /// The captured allocas are found afresh after an instruction that makes no pointer was put. Whether they are others than
+    /// before. It takes no memory.
+    pub fn note_put(&mut self, func: &Func, i: InstNo) -> bool
+        requires { HasPointers func.now self.old }
+        ensures alias { IsAliasOf func.now self.new }
+        ensures changed { (f : FuncState) → IsAliasOf f self.old → (IsTrue result ↔ Differ (IsCaptured f) (IsCaptured func.now)) }
+    {
+        let _put = i;
+        recount(&self.bases, func, None, &mut self.next);
+        let changed = mark_others(&self.bases, &self.captured, &self.next);
+        mem::swap(&mut self.captured, &mut self.next);
+        changed
+    }
+
+    /// The captured allocas are found as they are without an instruction, before it is taken. Whether they are others than before.
+    /// It takes no memory.
+    pub fn note_take(&mut self, func: &Func, i: InstNo) -> bool
+        requires { HasPointers func.now self.old }
+        ensures pointers { HasPointers func.now self.new }
+        ensures captured { IsCapturesBut self.new.bases func.now (Some i) self.new.captured }
+        ensures changed { (f : FuncState) → IsAliasOf f self.old → (IsTrue result ↔ Differ (IsCaptured f) (IsCapturedBut func.now (Some i))) }
+    {
+        recount(&self.bases, func, Some(i), &mut self.next);
+        let changed = mark_others(&self.bases, &self.captured, &self.next);
+        mem::swap(&mut self.captured, &mut self.next);
+        changed
     }
 
     // The root and offset of a pointer.
@@ -499,15 +528,7 @@ impl Alias {
     fn caught_at(&self, set: Set) -> bool
         ensures { result ≡ caught_at self.now.captured set }
     {
-        match set {
-            Set::Alloca(c) => {
-                if c as u64 >= self.captured.len() {
-                    return false;
-                }
-                self.captured.has(c as u64)
-            }
-            _ => false,
-        }
+        caught_at(&self.captured, set)
     }
 
     /// Whether a call passes a pointer to an alloca as an argument that the callee may keep.

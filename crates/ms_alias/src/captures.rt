@@ -1,15 +1,15 @@
 // Which allocas are captured, by column.
-ghost use Rattle.std.specs.Prelude.{◌≡◌, ◌<◌, ◌↔◌, ℕ, length, true};
+ghost use Rattle.std.specs.Prelude.{◌≡◌, ◌<◌, ◌↔◌, ℕ, IsTrue, length, true};
 ghost use Rattle.ms_alias.specs.declared.sets.Set.TheVariants.{Alloca, Brought};
-ghost use Rattle.ms_alias.specs.Captured.{args_of};
-ghost use Rattle.ms_alias.specs.Tables.{val_set};
-ghost use Rattle.ms_alias.specs.Building.{Adds, IsCountedAs, IsKeptBy, AreCounted, HaveColumns, IsAllocaOf, IsKeptAt, skips};
+ghost use Rattle.ms_alias.specs.Captured.{args_of, skips};
+ghost use Rattle.ms_alias.specs.Tables.{caught_at, val_set};
+ghost use Rattle.ms_alias.specs.Building.{Adds, IsCountedAs, IsKeptBy, AreCounted, HaveColumns, IsAllocaOf, IsKeptAt, MarkOthers};
 
 use crate::loc::Root;
 use crate::maker::pointer_of;
 use crate::marks::Marks;
 use crate::sets::{Bases, Set};
-use ms_ir::{Arg, Func, Inst, InstNo, Val};
+use ms_ir::{Arg, Func, Inst, InstNo, LocalNo, Val};
 
 // What is known of the bases of a value.
 fn val_set(bases: &Bases, val: Val) -> Set
@@ -125,4 +125,32 @@ pub fn recount(bases: &Bases, func: &Func, skip: Option<InstNo>, marks: &mut Mar
     for i in 0..func.made() {
         add_number(bases, func, skip, i, marks);
     }
+}
+
+/// Whether the alloca of a set is marked.
+pub fn caught_at(marks: &Marks, set: Set) -> bool
+    ensures { result ≡ caught_at marks.now set }
+{
+    match set {
+        Set::Alloca(c) => {
+            if c as u64 >= marks.len() {
+                return false;
+            }
+            marks.has(c as u64)
+        }
+        _ => false,
+    }
+}
+
+/// Whether an alloca is marked in one list and not in the other.
+pub fn mark_others(bases: &Bases, old: &Marks, new: &Marks) -> bool
+    ensures { IsTrue result ↔ MarkOthers bases.now old.now new.now }
+{
+    for l in 0..bases.count() {
+        let set = bases.set_of(Root::Local(LocalNo(l)));
+        if caught_at(old, set) != caught_at(new, set) {
+            return true;
+        }
+    }
+    false
 }

@@ -1,12 +1,34 @@
 // Laws of pointers, each the contract of a function that does nothing.
-ghost use Rattle.std.specs.Prelude.{◌≡◌, true};
-ghost use Rattle.ms_ir.specs.Func.{FuncState};
-ghost use Rattle.ms_alias.specs.declared.loc.Root.{Root};
-ghost use Rattle.ms_alias.specs.declared.sets.Set.{Set};
-ghost use Rattle.ms_alias.specs.Tables.{BasesState, IsSet, sets_meet};
-ghost use Rattle.ms_alias.specs.Bases.{Base, HasBase};
-ghost use Rattle.ms_alias.specs.Meeting.{MayBeOne};
+ghost use Rattle.std.specs.Prelude.{◌≡◌, ◌↔◌, ℕ, Bool, IsTrue, Some, false};
+ghost use Rattle.ms_ir.specs.declared.names.InstNo.{InstNo};
+ghost use Rattle.ms_ir.specs.declared.names.Name.{Name};
+ghost use Rattle.ms_ir.specs.declared.inst.Inst.{Inst};
+ghost use Rattle.ms_ir.specs.Func.{FuncState, IsTaken, after_put};
+ghost use Rattle.ms_ir.specs.Locals.{IsNumbered};
+ghost use Rattle.ms_alias.specs.declared.loc.Loc.{Loc};
+ghost use Rattle.ms_alias.specs.Roots.{makes_pointer};
+ghost use Rattle.ms_alias.specs.Reaches.{ReadsLoc, WritesLoc};
+ghost use Rattle.ms_alias.specs.Meeting.{MayWrite, MayRead};
+ghost use Rattle.ms_alias.specs.Tables.{AliasState, HasPointers, IsAliasOf, IsCapturesBut};
 
-pub fn sets_told()
-    ensures { (t : BasesState) (f : FuncState) (p q : Root) (s u : Set) → IsSet t f p s → IsSet t f q u → sets_meet t s u ≡ true → (b : Base) × (c : Base) × HasBase f p b × HasBase f q c × MayBeOne b c }
+/// Where there are tables of a function, there is a test for which of its instructions may write a location, and for which may
+/// read it.
+pub fn tests_told()
+    ensures writes { (f : FuncState) (a : AliasState) → IsAliasOf f a → (loc : Loc) → (t : ℕ → Bool) × ((i : ℕ) → IsTrue (t i) ↔ MayWrite f i loc) }
+    ensures reads { (f : FuncState) (a : AliasState) → IsAliasOf f a → (loc : Loc) → (t : ℕ → Bool) × ((i : ℕ) → IsTrue (t i) ↔ MayRead f i loc) }
+{}
+
+/// An instruction reads one location at most, and a store or memcpy writes the bytes of one at most.
+pub fn one_location()
+    ensures reads { (f : FuncState) → IsNumbered f → (i : InstNo) (a b : Loc) → ReadsLoc f i a → ReadsLoc f i b → a ≡ b }
+    ensures writes { (f : FuncState) → IsNumbered f → (i : InstNo) (a b : Loc) → WritesLoc f i a → WritesLoc f i b → a ≡ b }
+{}
+
+/// Tables stay the function's, but for the captured allocas, when an instruction that makes no pointer is put; and they are
+/// the function's again once an instruction is taken that makes none and was noted.
+pub fn tables_kept()
+    ensures put { (f : FuncState) (a : AliasState) (b place : ℕ) (inst : Inst) (name : Name) → makes_pointer inst ≡ false → IsAliasOf f a → HasPointers (after_put f b place inst name) a }
+    ensures take { (f g : FuncState) (a : AliasState) (i : InstNo) (inst : Inst) → IsNumbered f → IsTaken f g i.0 inst → makes_pointer inst ≡ false → HasPointers f a
+        → IsCapturesBut a.bases f (Some i) a.captured → IsAliasOf g a }
+    ensures pointers { (f : FuncState) (a : AliasState) → IsAliasOf f a → HasPointers f a }
 {}

@@ -16,4 +16,5 @@ mod touch;
 mod turning;
 
 pub use alias::Alias;
+pub use laws::{one_location, tables_kept, tests_told};
 pub use loc::{Loc, Root};

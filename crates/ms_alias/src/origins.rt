@@ -3,7 +3,8 @@ ghost use Rattle.std.specs.Prelude.{◌≡◌, ◌<◌, ◌≤◌, ◌^◌, ◌�
 ghost use Rattle.ms_ir.specs.declared.names.LocalNo.{LocalNo as LocalNumber};
 ghost use Rattle.ms_alias.specs.declared.loc.Root.TheVariants.{Local};
 ghost use Rattle.ms_alias.specs.Roots.{maker_of, step_by_maker, IsRing, HasRoot};
-ghost use Rattle.ms_alias.specs.Building.{AreRings, IsBeyond, HasNearSteps, next_local};
+ghost use Rattle.ms_alias.specs.Building.{AreRings, IsBeyond, next_local};
+ghost use Rattle.ms_alias.specs.Offsets.{AreOffsetsNear};
 ghost use Rattle.ms_alias.specs.Tables.{IsOrigins};
 
 use crate::loc::Root;
@@ -63,7 +64,7 @@ fn find_origin(func: &Func, rings: &Marks, marks: &mut Marks, l: u64) -> Origin
     requires same { length rings.now ≡ length marks.old }
     requires beyond { IsBeyond func.now (length marks.old) }
     requires rings { AreRings func.now rings.now }
-    requires near { HasNearSteps func.now }
+    requires near { AreOffsetsNear func.now }
     ensures root { HasRoot func.now (Local (record { 0 = l })) result.root result.offset }
     ensures len { length marks.new ≡ length marks.old }
 {
@@ -116,7 +117,7 @@ fn find_origins(
     requires same { length rings.now ≡ length marks.old }
     requires beyond { IsBeyond func.now (length marks.old) }
     requires rings { AreRings func.now rings.now }
-    requires near { HasNearSteps func.now }
+    requires near { AreOffsetsNear func.now }
     ensures origins { IfOk result (λ v. IsOrigins func.now v.items) }
     ensures len { length marks.new ≡ length marks.old }
 {
@@ -135,7 +136,7 @@ pub fn find_all_origins(
 ) -> Result<(Vec<Origin>, Marks), NoMemory>
     requires few { count < 2 ^ 32 }
     requires beyond { IsBeyond func.now count }
-    requires near { HasNearSteps func.now }
+    requires near { AreOffsetsNear func.now }
     ensures origins { IfOk result (λ v. IsOrigins func.now v.0.items) }
     ensures marks { IfOk result (λ v. length v.1 ≡ count) }
 {

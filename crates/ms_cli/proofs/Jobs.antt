@@ -5,7 +5,7 @@ use Rattle.ms_output.specs.Output.{limit, IsOutput, IsRefusal}
 use Rattle.ms_output.specs.declared.refusal.Refusal.{Refusal}
 use Rattle.ms_output.specs.declared.wanted.Wanted.{Wanted}
 use Rattle.ms_cli.specs.Words.{Asked, asked_of}
-use Rattle.ms_cli.specs.Job.{Job, BadWords, Refuses, Writes, IsLoaded, IsWritten, IsTooLong, IsBadFile, IsRefused, IsJob, IsTold, status_of}
+use Rattle.ms_cli.specs.Job.{Job, BadWords, Refuses, Writes, IsLoaded, IsWritten, IsTooLong, IsRefused, IsJob, IsTold, status_of}
 use Rattle.ms_cli.specs.Run.{FilesSeen, SinkSeen, IsFailed, HasRun}
 use Rattle.ms_cli.specs.declared.status.Status.{Status}
 use Rattle.ms_cli.specs.declared.status.Status.TheVariants.{Done, Refused, Usage, ReadFault, WriteFault, Memory}

@@ -1,13 +1,13 @@
 -- What follows for a run from what its parts answered.
 use Rattle.std.proofs.Common.{◌≡◌, inl, inr, ℕ, List, Option, Some, IsSome, IfSome, refl, ap, sym, ◌∙◌, subst, arith}
-use Rattle.std.specs.Prelude.{Result, Ok, Err}
+use Rattle.std.specs.Prelude.{Ok, Err}
 use Rattle.ms_output.specs.Told.{IsUnwritten}
 use Rattle.ms_output.specs.declared.refusal.Refusal.{Refusal}
 use Rattle.ms_output.specs.declared.unwritten.Unwritten.{Unwritten}
 use Rattle.ms_output.specs.declared.unwritten.Unwritten.TheVariants as unwritten
 use Rattle.ms_cli.specs.Words.{Asked, asked_of}
 use Rattle.ms_cli.specs.Job.{IsLoaded, IsTheFunc}
-use Rattle.ms_cli.specs.Run.{FilesSeen, IsUnfailed, IsFailed, IsUnloaded, IsUndone, Loads, Computes, ended_by}
+use Rattle.ms_cli.specs.Run.{FilesSeen, IsFailed, IsUnloaded, IsUndone, Loads, Computes, ended_by}
 use Rattle.ms_cli.specs.declared.ending.Ending.{Ending}
 use Rattle.ms_cli.specs.declared.status.Status.{Status}
 use Rattle.ms_cli.specs.declared.status.Status.TheVariants as status

@@ -1,12 +1,12 @@
 -- The accesses of a function's form are what paths say, and the form is one of `ms_paths`.
-use Rattle.std.proofs.Common.{Bool, true, false, ◌≡◌, ◌<◌, ◌≤◌, ◌⊎◌, ◌↔◌, inl, inr, ℕ, zero, suc, List, [], ◌∷◌, length, take, get_or, Option, Some, None, refl, ap, sym, ◌∙◌, subst, arith, ⊎_elim, if◌then◌else◌}
+use Rattle.std.proofs.Common.{Bool, true, false, ◌≡◌, ◌<◌, ◌≤◌, ◌⊎◌, ◌↔◌, inl, inr, ℕ, zero, suc, List, [], ◌∷◌, length, take, get_or, Option, Some, None, refl, ap, sym, ◌∙◌, subst, arith, ⊎_elim}
 use Rattle.std.specs.Prelude.{slice_get, slice_index, is_some, IsTrue, Contains}
-use Rattle.std.proofs.lemmas.Bool.{cases_Bool, both_ways, cases_eq}
+use Rattle.std.proofs.lemmas.Bool.{cases_Bool, both_ways}
 use Rattle.std.proofs.lemmas.Bool.Decides.{leb_tells}
 use Rattle.std.proofs.lemmas.List.{take_all, get_or_default}
 use Rattle.std.proofs.lemmas.Option.{slice_get-get_or}
 use mathlib.Core.Path.{fun_ext}
-use Rattle.ms_paths.specs.Flow.{Block as Run, block_at, HasEdge, IsPath, IsReached, Event, Of as LastOf, Phi as LastPhi, Entry as LastEntry, after, entered, last_event, last_event_at, Suffices, NeedsPhi, IsNeeded, IsAnswer, StandsAt, IsClosed, IsForm, LiesOnEvery}
+use Rattle.ms_paths.specs.Flow.{Block as Run, block_at, HasEdge, IsPath, IsReached, Event, Of as LastOf, Phi as LastPhi, Entry as LastEntry, after, entered, last_event, last_event_at, NeedsPhi, IsAnswer, IsClosed, IsForm, LiesOnEvery}
 use Rattle.ms_paths.specs.Walk.{IsDefining}
 use Rattle.ms_ir.specs.declared.names.InstNo.{InstNo}
 use Rattle.ms_ir.specs.declared.inst.Kind.{Kind}
@@ -26,7 +26,6 @@ use Rattle.ms_build.specs.Built.{IsAnswered, IsFormOf}
 use Rattle.ms_climb.specs.Answer.{IsStartAt}
 use Rattle.ms_climb.specs.Chains.{or_entry, before_of}
 use Rattle.ms_climb.specs.Walk.{brought_of}
-use Rattle.ms_climb.proofs.Options.{cases_Option}
 use Rattle.ms_climb.proofs.Events.{OnePlaced, event_at, event_of-entry, events_at, take-numbers, length-numbers, number_at, numbered_at, in_take, one_inst, def_told, event_after, take_found, after_phi, entered_phi, last_phi, reached_below, length-graph_of}
 
 -- the laws, as the functions below state them
@@ -91,7 +90,7 @@ IsIn insts blocks (Of i) = i.0 < insts
 IsIn insts blocks (Phi b) = b.0 < blocks
 
 tells_below : (n m : ℕ) → (n < m) ⊎ (n < m → ⊥)
-tells_below n m = elim (leb_tells m n) [ | inl out ↦ inr (λ lt. let o = out.1 in omega arith) | inr within ↦ inl within.1 ]
+tells_below n m = elim (leb_tells m n) [ inl out ↦ inr (λ lt. let o = out.1 in omega arith) | inr within ↦ inl within.1 ]
 
 in_tells : (insts blocks : ℕ) (a : Access) → IsIn insts blocks a ⊎ (IsIn insts blocks a → ⊥)
 in_tells insts blocks Entry = inl tt
@@ -193,8 +192,8 @@ module _ (func : FuncState) (f : FormState) (form : IsFormOf func f) (one : OneP
       some
   named_last i b k x a r at e (inr o) =
       let none : defining_at f i ≡ None = form.no_defining i (λ c j y r' acc same_number.
-          let is : y ≡ x = one_inst func.blocks c j b k y x one acc.found at.found (same_number ∙ sym at.numbered) in
-          both_ways (names_access (kind_of_inst x.inst)) o (subst (λ (z : Placed). names_access (kind_of_inst z.inst) ≡ true) is acc.names)) in
+      let is : y ≡ x = one_inst func.blocks c j b k y x one acc.found at.found (same_number ∙ sym at.numbered) in
+      both_ways (names_access (kind_of_inst x.inst)) o (subst (λ (z : Placed). names_access (kind_of_inst z.inst) ≡ true) is acc.names)) in
       let both : None ≡ Some a = sym none ∙ e in cc
 
   pub start_last : (i b k : ℕ) (x : Placed) (a : Access) → IsReached G b → IsAt func.blocks i b k x → IsStartAt func.blocks f i b k a → IsAnswer G D b k (event_of a)
@@ -230,7 +229,6 @@ module _ (func : FuncState) (gr : List Run) (f : FormState) (same : gr ≡ edges
     (reach : (b : ℕ) → IsReached (edges_of func.blocks) b ↔ IsReached (graph_of func.blocks) b)
     (order : (b : ℕ) → (is_some (order_of gr b) ≡ true → IsReached gr b) × (IsReached gr b → is_some (order_of gr b) ≡ true))
     (told : EdgesTold gr) (all : EdgesAll gr) (lies : LiesLaw) where
-
   to_gr : (b : ℕ) → IsReached (graph_of func.blocks) b → IsReached gr b
   to_gr b r = subst (λ (g : List Run). IsReached g b) (sym same) ((reach b).1 r)
 

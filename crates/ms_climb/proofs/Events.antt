@@ -1,19 +1,22 @@
 -- The instructions of a function as events on paths.
-use Rattle.std.proofs.Common.{Bool, true, false, ◌≡◌, ◌<◌, ◌≤◌, ◌&&◌, ◌||◌, inl, inr, ℕ, zero, suc, List, [], ◌∷◌, length, take, get_or, Option, Some, None, refl, ap, sym, ◌∙◌, subst, arith, ⊎_elim, if◌then◌else◌}
+use Rattle.std.proofs.Common.{Bool, true, false, ◌≡◌, ◌<◌, ℕ, zero, suc, List, [], ◌∷◌, length, take, Option, Some, None, refl, ap, sym, ◌∙◌, subst, arith, ⊎_elim, if◌then◌else◌}
 use Rattle.std.specs.Prelude.{slice_get, Contains, nat_eq}
-use Rattle.std.proofs.lemmas.Bool.{cases_Bool, both_ways}
+use Rattle.std.proofs.lemmas.Bool.{cases_Bool}
 use Rattle.std.proofs.lemmas.Bool.Decides.{nat_tests}
-use Rattle.ms_paths.specs.Flow.{Block as Run, block_at, Event, Of as LastOf, Phi as LastPhi, Entry as LastEntry, after, entered, last_event, StandsOnce, HasEdge, IsPath, IsReached, IsClosed}
+use Rattle.ms_paths.specs.Flow.{Block as Run, block_at, Event, Of as LastOf, Phi as LastPhi, Entry as LastEntry, after, entered, last_event, StandsOnce, IsPath, IsClosed}
 use Rattle.ms_ir.specs.declared.names.InstNo.{InstNo}
 use Rattle.ms_ir.specs.Inst.{kind_of_inst}
 use Rattle.ms_ir.specs.Graph.{numbers, graph_of, is_def, has_def, defs_of}
-use Rattle.ms_ir.specs.Func.{Placed, Block, insts_at}
+use Rattle.ms_ir.specs.declared.inst.Inst.{Inst}
+use Rattle.ms_ir.specs.declared.inst.Kind.{Kind}
+use Rattle.ms_ir.specs.Func.{Placed, Block, IsAt, IsNowhere, insts_at}
 use Rattle.ms_form.specs.declared.access.Access.{Access}
 use Rattle.ms_form.specs.declared.access.Access.TheVariants.{Entry, Of, Phi}
 use Rattle.ms_form.specs.Form.{after_last}
 use Rattle.ms_build.specs.Accesses.{event_of}
 use Rattle.ms_build.specs.Filled.{last_step, last_from}
 use Rattle.ms_climb.specs.Chains.{or_entry}
+use Rattle.ms_climb.proofs.Insts.{nowhere_at}
 
 abbrev pub OnePlaced : List Block → Type 0
 OnePlaced blocks = (b j c k : ℕ) (x y : Placed) → slice_get (insts_at blocks b) j ≡ Some x → slice_get (insts_at blocks c) k ≡ Some y → x.number ≡ y.number → (b ≡ c) × (j ≡ k)
@@ -136,6 +139,12 @@ def_told blocks b k x one at =
     (λ (f : def_at x ≡ false).
     defs_none blocks x.number (λ c j y e same. ap def_at (one_inst blocks c j b k y x one e at same) ∙ f) ∙ sym f)
     (cases_Bool (def_at x))
+
+pub def_here : (blocks : List Block) (i b k : ℕ) (x : Placed) (inst : Inst) (kind : Kind) → OnePlaced blocks → IsAt blocks i b k x → x.inst ≡ inst → kind ≡ kind_of_inst inst → defs_of blocks i ≡ is_def kind
+def_here blocks i b k x inst kind one at same is = ap (defs_of blocks) (sym at.numbered) ∙ def_told blocks b k x one at.found ∙ ap (λ (y : Inst). is_def (kind_of_inst y)) same ∙ ap is_def (sym is)
+
+pub def_nowhere : (blocks : List Block) (i : ℕ) → IsNowhere blocks i → defs_of blocks i ≡ false
+def_nowhere blocks i none = defs_none blocks i (λ b j y e same. absurd (nowhere_at blocks i b j y none e same))
 
 -- the last event once instructions have run is their last Def
 pub event_after : (E : ℕ → Bool) (xs : List Placed) (last : Option InstNo) (start : Option Access) → ((k : ℕ) (x : Placed) → slice_get xs k ≡ Some x → E x.number ≡ is_def (kind_of_inst x.inst))

@@ -1,5 +1,5 @@
 -- Going along the instructions of a block.
-use Rattle.std.proofs.Common.{◌≡◌, ◌<◌, ◌≤◌, ℕ, suc, zero, ◌+◌, List, [], ◌∷◌, length, take, Option, Some, None, refl, ap, ◌∙◌, arith}
+use Rattle.std.proofs.Common.{◌≡◌, ◌<◌, ℕ, suc, zero, ◌+◌, List, [], ◌∷◌, length, take, Option, Some, None, refl, ap, ◌∙◌, arith}
 use Rattle.std.specs.Prelude.{slice_get, option_map}
 use Rattle.ms_ir.specs.declared.names.InstNo.{InstNo}
 use Rattle.ms_ir.specs.Func.{Placed, Block, IsAt, IsNowhere, NotNumbered, insts_at}
@@ -35,13 +35,16 @@ none_at (Some x) e = cc
 pub not_past : (blocks : List Block) (b k : ℕ) → k < length (insts_at blocks b) → IsCursor blocks b k None → ⊥
 not_past blocks b k lt e = get_some (insts_at blocks b) k lt (none_at (slice_get (insts_at blocks b) k) e)
 
-pub nowhere_here : (blocks : List Block) (n b k : ℕ) (x : Placed) → IsNowhere blocks n → IsAt blocks n b k x → ⊥
-nowhere_here blocks n b k x none at = along (insts_at blocks b) k (none b) at.found
+pub nowhere_at : (blocks : List Block) (n b k : ℕ) (x : Placed) → IsNowhere blocks n → slice_get (insts_at blocks b) k ≡ Some x → x.number ≡ n → ⊥
+nowhere_at blocks n b k x none found numbered = along (insts_at blocks b) k (none b) found
   where
     along : (xs : List Placed) (m : ℕ) → NotNumbered n xs → slice_get xs m ≡ Some x → ⊥
     along [] m h e = cc
-    along (y ∷ xs) zero h e = h.0 (let s : y ≡ x = cc in ap (λ (z : Placed). z.number) s ∙ at.numbered)
+    along (y ∷ xs) zero h e = h.0 (let s : y ≡ x = cc in ap (λ (z : Placed). z.number) s ∙ numbered)
     along (y ∷ xs) (suc m) h e = along xs m h.1 e
+
+pub nowhere_here : (blocks : List Block) (n b k : ℕ) (x : Placed) → IsNowhere blocks n → IsAt blocks n b k x → ⊥
+nowhere_here blocks n b k x none at = nowhere_at blocks n b k x none at.found at.numbered
 
 -- one more instruction
 pub last_next : (last : Option InstNo) (xs : List Placed) (k : ℕ) (x : Placed) → slice_get xs k ≡ Some x → last_from last (take (k + 1) xs) ≡ last_step (last_from last (take k xs)) x

@@ -6,3 +6,5 @@ pub mod Insts
 pub mod Events
 pub mod Answered
 pub mod Resolved
+pub mod NearLemmas
+pub mod Shapes

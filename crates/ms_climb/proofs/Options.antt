@@ -1,5 +1,5 @@
 -- Optional values, lists of them, and results.
-use Rattle.std.proofs.Common.{◌≡◌, ◌≢◌, ◌<◌, ◌⊎◌, inl, inr, ℕ, zero, suc, Bool, true, List, [], ◌∷◌, length, get_or, set, Option, Some, None, refl, arith}
+use Rattle.std.proofs.Common.{◌≡◌, ◌<◌, ◌⊎◌, inl, inr, ℕ, zero, suc, true, List, [], ◌∷◌, length, get_or, set, Option, Some, None, refl, arith}
 use Rattle.std.specs.Prelude.{is_some, IfOk, Result, Ok, Err}
 use Rattle.ms_climb.specs.Options.{free}
 

@@ -1,13 +1,12 @@
 -- What was reached, with phis left out, is resolved in the sense of `ms_paths`, so that what an access leads to is the answer.
-use Rattle.std.proofs.Common.{Bool, true, false, ◌≡◌, ◌<◌, ◌≤◌, ◌⊎◌, ◌↔◌, inl, inr, ℕ, List, length, take, get_or, Option, Some, None, refl, ap, sym, ◌∙◌, subst, arith, ⊎_elim}
+use Rattle.std.proofs.Common.{Bool, true, false, ◌≡◌, ◌<◌, ◌⊎◌, ◌↔◌, inl, inr, ℕ, List, length, take, get_or, Option, Some, None, refl, ap, sym, ◌∙◌, subst, arith, ⊎_elim}
 use Rattle.std.specs.Prelude.{slice_get, is_some, IsTrue, not}
-use Rattle.std.proofs.lemmas.Bool.{cases_Bool, both_ways}
+use Rattle.std.proofs.lemmas.Bool.{both_ways}
 use Rattle.ms_paths.specs.Flow.{Block as Run, block_at, HasEdge, IsReached, Event, Of as LastOf, Phi as LastPhi, Entry as LastEntry, after, entered, IsAnswer, StandsOnce, IsReducible, IsClosed, IsForm, IsTrivialPhi}
 use Rattle.ms_paths.specs.Walk.{IsDefining, IsResolved}
 use Rattle.ms_ir.specs.declared.names.BlockNo.{BlockNo}
 use Rattle.ms_ir.specs.Graph.{graph_of, defs_of}
 use Rattle.ms_ir.specs.Func.{Placed, FuncState, insts_at}
-use Rattle.ms_flow.specs.declared.sources.Source.{Source}
 use Rattle.ms_flow.specs.Table.{edges_of}
 use Rattle.ms_flow.specs.Flow.{sources_of, order_of}
 use Rattle.ms_form.specs.declared.access.Access.{Access}
@@ -19,13 +18,12 @@ use Rattle.ms_climb.specs.declared.chains.Mark.{Mark}
 use Rattle.ms_climb.specs.declared.chains.Mark.TheVariants.{Counts, Passed}
 use Rattle.ms_climb.specs.declared.skips.Skip.{Skip}
 use Rattle.ms_climb.specs.Answer.{AreDefs, IsLastAt}
-use Rattle.ms_climb.specs.Chains.{ChainsState, or_entry, before_of, mark_at, stop_by, stop_of, IsPassed}
-use Rattle.ms_climb.specs.Walk.{WalkState, brought_of, has_met, phi_at, Knows, Sees, IsListed, IsCollected}
-use Rattle.ms_climb.specs.Skips.{SkipsState, skip_of, IsLeading, way_of, IsTrivialWay, IsBrought, IsSkipping, IsSettled}
-use Rattle.ms_climb.proofs.Options.{cases_Option}
+use Rattle.ms_climb.specs.Chains.{before_of, mark_at, stop_by, stop_of, IsPassed}
+use Rattle.ms_climb.specs.Walk.{WalkState, brought_of, has_met, phi_at, Knows, Sees, IsCollected}
+use Rattle.ms_climb.specs.Skips.{SkipsState, skip_of, IsLeading, way_of, IsTrivialWay, IsBrought, IsSettled}
 use Rattle.ms_climb.proofs.WalkLemmas.{sees_start}
-use Rattle.ms_climb.proofs.Events.{OnePlaced, event_at, access_of, access_of-event, access_of-entry, event_of-access, event_of-entry, stands_once, length-graph_of}
-use Rattle.ms_climb.proofs.Answered.{LiesLaw, EdgesTold, EdgesAll, IsSlot, IsIn, slice_get_below, member_at, in_order, begins, before, leaves, brings, names, in_z, slot_of, edge_of, answer_is, is_form, is_defining, entered_begins, operand_is, answer_in, before_in, brought_in}
+use Rattle.ms_climb.proofs.Events.{OnePlaced, access_of, access_of-event, access_of-entry, stands_once}
+use Rattle.ms_climb.proofs.Answered.{LiesLaw, EdgesTold, EdgesAll, IsSlot, IsIn, slice_get_below, member_at, in_order, begins, leaves, brings, names, in_z, slot_of, edge_of, answer_is, is_form, is_defining, entered_begins, operand_is, answer_in, before_in, brought_in}
 
 abbrev pub WalkLaw : Type 0
 WalkLaw = (g : List Run) (D E R phis : ℕ → Bool) (enters : ℕ → Event) (operand : ℕ → ℕ → Event) (leaves defining : ℕ → Event)
@@ -227,7 +225,7 @@ module _ (func : FuncState) (gr : List Run) (f : FormState) (same : gr ≡ edges
   unfolding to seen leads
   found_last law defs red root leads_to b k r last =
       let e : Event = after (defs_of func.blocks) (take k (block_at (graph_of func.blocks) b).events)
-          (entered (has_phi f) b (begins f b)) in
+      (entered (has_phi f) b (begins f b)) in
       let here : e ≡ event_of start =
       ap (after (defs_of func.blocks) (take k (block_at (graph_of func.blocks) b).events)) (entered_begins f b)
       ∙ sym (answer_is func f form one b k (event_of start) r last) in

@@ -1,5 +1,5 @@
 -- How phis are left out.
-use Rattle.std.proofs.Common.{◌≡◌, ◌≢◌, ◌<◌, ◌≤◌, ◌⊎◌, inl, inr, ℕ, zero, suc, ◌+◌, ◌-◌, ◌^◌, Bool, true, false, List, [], ◌∷◌, length, get_or, set, replicate, Option, Some, None, refl, ap, sym, ◌∙◌, subst, arith, ⊎_elim, get_or-set_other, get_or-set_same, if◌then◌else◌}
+use Rattle.std.proofs.Common.{◌≡◌, ◌≢◌, ◌<◌, ◌≤◌, ◌⊎◌, inl, inr, ℕ, zero, suc, ◌+◌, ◌-◌, ◌^◌, Bool, true, false, List, length, get_or, replicate, Option, Some, None, refl, ap, sym, ◌∙◌, subst, arith, ⊎_elim, get_or-set_other, get_or-set_same}
 use Rattle.std.specs.Prelude.{MatchBool, nat_eq, is_some}
 use Rattle.std.proofs.Math.ListN.{length-set}
 use Rattle.std.proofs.lemmas.Bool.{cases_eq}
@@ -13,9 +13,8 @@ use Rattle.ms_form.specs.Form.{FormState}
 use Rattle.ms_build.specs.Changes.{in_place_of}
 use Rattle.ms_climb.specs.declared.skips.Skip.{Skip}
 use Rattle.ms_climb.specs.Options.{free}
-use Rattle.ms_climb.specs.Chains.{stop_of}
-use Rattle.ms_climb.specs.Walk.{WalkState, brought_of, phi_at}
-use Rattle.ms_climb.specs.Skips.{SkipsState, skip_of, kept_count, HasTurns, IsLeading, way_of, IsTrivialWay, IsOnlyWay, HasTwoWays, left_out, IsBrought, IsSkipping, IsDone, AreDone, HasFewer, IsSettled}
+use Rattle.ms_climb.specs.Walk.{WalkState, phi_at}
+use Rattle.ms_climb.specs.Skips.{SkipsState, skip_of, HasTurns, IsLeading, way_of, IsTrivialWay, IsOnlyWay, HasTwoWays, left_out, IsBrought, IsSkipping, IsDone, AreDone, HasFewer}
 use Rattle.ms_climb.proofs.Options.{free_set}
 
 -- Following the phis that are left out.

@@ -1,5 +1,5 @@
 -- How accesses are reached.
-use Rattle.std.proofs.Common.{◌≡◌, ◌≢◌, ◌<◌, ◌≤◌, ◌⊎◌, inl, inr, ℕ, zero, suc, ◌+◌, Bool, true, false, ◌&&◌, if◌then◌else◌, List, [], ◌∷◌, ◌++◌, length, get_or, set, replicate, Option, Some, None, refl, ap, sym, ◌∙◌, subst, arith, ⊎_elim, get_or-set_other, get_or-set_same, length-append, ltb}
+use Rattle.std.proofs.Common.{◌≡◌, ◌≢◌, ◌<◌, ℕ, zero, suc, ◌+◌, Bool, true, false, ◌&&◌, List, [], ◌∷◌, ◌++◌, length, get_or, set, replicate, Option, Some, None, refl, ap, sym, ◌∙◌, subst, arith, ⊎_elim, get_or-set_other, get_or-set_same, length-append}
 use Rattle.std.specs.Prelude.{not, nat_lt, slice_get}
 use Rattle.std.proofs.Math.ListN.{get_or-append, length-set}
 use Rattle.std.proofs.Math.Seq.{get_or-append_seam}
@@ -12,8 +12,8 @@ use Rattle.ms_form.specs.declared.access.Access.{Access}
 use Rattle.ms_form.specs.declared.access.Access.TheVariants.{Entry, Of, Phi}
 use Rattle.ms_form.specs.Form.{FormState}
 use Rattle.ms_climb.specs.declared.chains.Mark.{Mark}
-use Rattle.ms_climb.specs.Chains.{ChainsState, stop_of, mark_at, IsMet, IsClimbed, KeepsMarks, IsClimb}
-use Rattle.ms_climb.specs.Walk.{WalkState, has_met, phi_at, no_phi, with_phi, with_met, Knows, Sees, unmet, brought_of, IsListed, IsWalked, IsGrown, IsStep, IsOpened, AreOpened, IsCollected}
+use Rattle.ms_climb.specs.Chains.{ChainsState, stop_of, IsClimb}
+use Rattle.ms_climb.specs.Walk.{WalkState, has_met, phi_at, no_phi, with_phi, with_met, Knows, Sees, unmet, brought_of, IsListed, IsWalked, IsGrown, IsStep, IsOpened, AreOpened}
 use Rattle.ms_climb.proofs.ChainLemmas.{met_kept}
 
 -- Growing.

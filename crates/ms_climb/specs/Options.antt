@@ -1,5 +1,5 @@
 -- Lists of optional values.
-use Rattle.std.specs.Prelude.{ℕ, zero, suc, List, [], ◌∷◌, Option, Some, None}
+use Rattle.std.specs.Prelude.{ℕ, suc, List, [], ◌∷◌, Option, Some, None}
 
 -- how many members are empty
 abbrev pub free : {A : Type 0} → List (Option A) → ℕ

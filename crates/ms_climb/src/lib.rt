@@ -6,9 +6,12 @@
 #![tactic(auto)]
 
 mod chains;
+mod near;
 mod search;
 mod skips;
 mod start;
+#[cfg(test)]
+mod tests;
 mod walk;
 mod writes;
 

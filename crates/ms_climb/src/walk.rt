@@ -99,12 +99,7 @@ impl Walk {
     }
 
     // Reaches an access, and the stop of its chain.
-    fn reach<W: Writes>(
-        &mut self,
-        form: &Form,
-        counted: &W,
-        access: Access,
-    ) -> Result<(), NoMemory>
+    fn reach<W: Writes>(&mut self, form: &Form, counted: &W, access: Access) -> Result<(), NoMemory>
         requires { IsWalked form.now (W.test counted.now) self.old }
         ensures { OnOk result (IsStep form.now (W.test counted.now) access self.old self.new) }
     {

@@ -18,7 +18,7 @@ use Rattle.ms_resolve.specs.Shape.{InstLine, BlockLines, FuncLines, ItemLines, l
 use Rattle.ms_resolve.specs.Scope.{Scope, value_of, inst_of, placed_at, local_behind, locals_behind, insts_from, blocks_from, func_of}
 use Rattle.ms_alias.specs.declared.loc.Root.{Root}
 use Rattle.ms_alias.specs.Roots.{Maker, Step, step_by, step_in, step_by_maker, makes, maker_in, maker_from, or_else, pointer_of}
-use Rattle.ms_alias.specs.Building.{IsNear, greatest_offset, HasNearSteps}
+use Rattle.ms_alias.specs.Offsets.{IsNear, greatest_offset, HasNearSteps}
 use Rattle.ms_output.specs.Forms.{AreSmall, IsSmallAt}
 
 pub each_front : {A : Type 0} (P : A → Type 0) (xs ys : List A) → Each P (xs ++ ys) → Each P xs

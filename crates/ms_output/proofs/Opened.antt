@@ -26,7 +26,7 @@ use Rattle.ms_resolve.specs.Made.{Made, makes, param_made, inst_made, label_made
 use Rattle.ms_resolve.specs.Scope.{Scope, or_first, number_of_name, term_of, locals_behind, blocks_from, func_of}
 use Rattle.ms_resolve.specs.Module.{scope_of, bodies_in}
 use Rattle.ms_valid.specs.Cause.{IsAccepted}
-use Rattle.ms_alias.specs.Building.{HasNearSteps}
+use Rattle.ms_alias.specs.Offsets.{HasNearSteps}
 use Rattle.ms_output.specs.Forms.{AreOpen, AreSmall, IsSmallAt}
 use Rattle.ms_output.proofs.Near.{each_front, each_rest, func_near}
 

@@ -7,7 +7,7 @@ use Rattle.ms_ir.specs.Module.{ModuleState}
 use Rattle.ms_ir.specs.Symbols.{NamesState}
 use Rattle.ms_print.specs.Text.{module_text}
 use Rattle.ms_session.specs.Annotated.{IsAnnotated}
-use Rattle.ms_alias.specs.Building.{HasNearSteps}
+use Rattle.ms_alias.specs.Offsets.{HasNearSteps}
 use Rattle.ms_grammar.specs.Kept.{Each}
 use Rattle.ms_grammar.specs.Limits.{IsSmall}
 use Rattle.ms_grammar.specs.declared.line.Line.{Line}

@@ -1,7 +1,7 @@
 // Modules at a limit, and one past it.
 use crate::row::{PRINT, refused, run_on};
-use ms_cli::Status;
 use itoa::Buffer;
+use ms_cli::Status;
 use std::alloc::{AllocError, Global};
 use std::test::Fail;
 
@@ -62,7 +62,12 @@ fn limits(rt: HostRuntime) -> Result<(), Fail> {
     ];
     for (listing, count, status) in rows {
         let text = text_of(alloc, &listing, count)?;
-        let left = run_on(alloc, &[PRINT, "--disable-output", "m.ll"], "m.ll", text.as_slice())?;
+        let left = run_on(
+            alloc,
+            &[PRINT, "--disable-output", "m.ll"],
+            "m.ll",
+            text.as_slice(),
+        )?;
         assert_eq!(rt; left.status, status);
         assert_eq!(rt; left.out.bytes().is_empty(), status != Status::Done);
     }

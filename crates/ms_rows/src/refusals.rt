@@ -37,8 +37,16 @@ y:
 #[test]
 fn irreducible_refused(rt: HostRuntime) -> Result<(), Fail> {
     let rows: [(&[u8], u32, &[u8]); 2] = [
-        (IRREDUCIBLE, 0, b"mssa: k.ll: refusal 7: irreducible loop in @k\n"),
-        (SECOND_IRREDUCIBLE, 1, b"mssa: k.ll: refusal 7: irreducible loop in @k2\n"),
+        (
+            IRREDUCIBLE,
+            0,
+            b"mssa: k.ll: refusal 7: irreducible loop in @k\n",
+        ),
+        (
+            SECOND_IRREDUCIBLE,
+            1,
+            b"mssa: k.ll: refusal 7: irreducible loop in @k2\n",
+        ),
     ];
     for (text, func, told) in rows {
         let left = run_on(rt.alloc(), &[PRINT, "k.ll"], "k.ll", text)?;
@@ -49,19 +57,54 @@ fn irreducible_refused(rt: HostRuntime) -> Result<(), Fail> {
 
 // A module, the number of its refusal, its line, and the line that tells it.
 const REFUSED: [(&[u8], u32, u32, &[u8]); 10] = [
-    (b"}\n", 1, 1, b"mssa: b.ll:1: refusal 1: not of the profile\n"),
-    (b"define void @f() {\n}\n", 1, 2, b"mssa: b.ll:2: refusal 1: not of the profile\n"),
-    (b"define double @f() {\nret void\n}\n", 1, 1, b"mssa: b.ll:1: refusal 1: not of the profile\n"),
-    (b"define void @f() {\nret void\n", 1, 3, b"mssa: b.ll:3: refusal 1: not of the profile\n"),
-    (b"define void @f() {\n%a = alloca [65537 x i8], align 1\nret double\n}\n", 2, 2, b"mssa: b.ll:2: refusal 2: limit passed\n"),
-    (b"define void @f(ptr %p) {\nstore i32 %x, ptr %p\nret void\n}\n", 3, 2, b"mssa: b.ll:2: refusal 3: name\n"),
+    (
+        b"}\n",
+        1,
+        1,
+        b"mssa: b.ll:1: refusal 1: not of the profile\n",
+    ),
+    (
+        b"define void @f() {\n}\n",
+        1,
+        2,
+        b"mssa: b.ll:2: refusal 1: not of the profile\n",
+    ),
+    (
+        b"define double @f() {\nret void\n}\n",
+        1,
+        1,
+        b"mssa: b.ll:1: refusal 1: not of the profile\n",
+    ),
+    (
+        b"define void @f() {\nret void\n",
+        1,
+        3,
+        b"mssa: b.ll:3: refusal 1: not of the profile\n",
+    ),
+    (
+        b"define void @f() {\n%a = alloca [65537 x i8], align 1\nret double\n}\n",
+        2,
+        2,
+        b"mssa: b.ll:2: refusal 2: limit passed\n",
+    ),
+    (
+        b"define void @f(ptr %p) {\nstore i32 %x, ptr %p\nret void\n}\n",
+        3,
+        2,
+        b"mssa: b.ll:2: refusal 3: name\n",
+    ),
     (
         b"define void @f(ptr %p, i8 %x) {\nstore i32 %x, ptr %p\nstore i32 %w, ptr %p\nret void\n}\n",
         3,
         3,
         b"mssa: b.ll:3: refusal 3: name\n",
     ),
-    (b"define void @f(ptr %p, i8 %x) {\nstore i32 %x, ptr %p\nret void\n}\n", 4, 2, b"mssa: b.ll:2: refusal 4: type\n"),
+    (
+        b"define void @f(ptr %p, i8 %x) {\nstore i32 %x, ptr %p\nret void\n}\n",
+        4,
+        2,
+        b"mssa: b.ll:2: refusal 4: type\n",
+    ),
     (
         b"define i32 @f(i1 %c) {\nentry:\nbr i1 %c, label %a, label %b\na:\nbr label %b\nb:\n%x = phi i32 [ 1, %a ]\nret i32 %x\n}\n",
         5,
@@ -99,10 +142,20 @@ fn comment(alloc: Global, length: usize) -> Result<Vec<u8>, AllocError> {
 fn cut_and_oversized_files(rt: HostRuntime) -> Result<(), Fail> {
     let alloc = rt.alloc();
     let left = run_on(alloc, &[PRINT, "cut.ll"], "cut.ll", &ONE_BLOCK[..63])?;
-    expect(&rt, &left, refused(1, 3), b"", b"mssa: cut.ll:3: refusal 1: not of the profile\n");
+    expect(
+        &rt,
+        &left,
+        refused(1, 3),
+        b"",
+        b"mssa: cut.ll:3: refusal 1: not of the profile\n",
+    );
     let rows: [(usize, Status, &[u8]); 2] = [
         (1_048_576, Status::Done, b""),
-        (1_048_577, refused(10, 0), b"mssa: big.ll: refusal 10: longer than 1048576 bytes\n"),
+        (
+            1_048_577,
+            refused(10, 0),
+            b"mssa: big.ll: refusal 10: longer than 1048576 bytes\n",
+        ),
     ];
     for (length, status, told) in rows {
         let text = comment(alloc, length)?;

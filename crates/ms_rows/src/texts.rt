@@ -57,7 +57,8 @@ fn one_block(rt: HostRuntime) -> Result<(), Fail> {
 }
 
 // The longest list, of 16 passes.
-const SIXTEEN: &str = "--passes=print<memoryssa>,print<memoryssa>,print<memoryssa>,print<memoryssa>,print<memoryssa>,print<memoryssa>,print<memoryssa>,print<memoryssa>,print<memoryssa>,print<memoryssa>,print<memoryssa>,print<memoryssa>,print<memoryssa>,print<memoryssa>,print<memoryssa>,print<memoryssa>";
+const SIXTEEN: &str =
+    "--passes=print<memoryssa>,print<memoryssa>,print<memoryssa>,print<memoryssa>,print<memoryssa>,print<memoryssa>,print<memoryssa>,print<memoryssa>,print<memoryssa>,print<memoryssa>,print<memoryssa>,print<memoryssa>,print<memoryssa>,print<memoryssa>,print<memoryssa>,print<memoryssa>";
 
 // Each item of the list adds a form.
 #[test]
@@ -72,7 +73,10 @@ fn lists_of_passes(rt: HostRuntime) -> Result<(), Fail> {
         let left = run_on(rt.alloc(), words, "-", ONE_BLOCK)?;
         let out = left.out.bytes();
         assert_eq!(rt; out.chunks(ONE_BLOCK_FORM.len()).count(), count);
-        assert!(rt; out.chunks(ONE_BLOCK_FORM.len()).all(|form| form == ONE_BLOCK_FORM));
+        assert!(rt;
+            out.chunks(ONE_BLOCK_FORM.len())
+                .all(|form| form == ONE_BLOCK_FORM)
+        );
         assert_eq!(rt; left.status, Status::Done);
     }
     Ok(())

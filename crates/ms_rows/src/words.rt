@@ -8,7 +8,8 @@ const USAGE: &[u8] =
     b"mssa: usage: mssa --passes=LIST [--edits=FILE] [--stats] [--disable-output] (FILE or --gen=SEED)\n";
 
 // One pass too many.
-const SEVENTEEN: &str = "--passes=print<memoryssa>,print<memoryssa>,print<memoryssa>,print<memoryssa>,print<memoryssa>,print<memoryssa>,print<memoryssa>,print<memoryssa>,print<memoryssa>,print<memoryssa>,print<memoryssa>,print<memoryssa>,print<memoryssa>,print<memoryssa>,print<memoryssa>,print<memoryssa>,print<memoryssa>";
+const SEVENTEEN: &str =
+    "--passes=print<memoryssa>,print<memoryssa>,print<memoryssa>,print<memoryssa>,print<memoryssa>,print<memoryssa>,print<memoryssa>,print<memoryssa>,print<memoryssa>,print<memoryssa>,print<memoryssa>,print<memoryssa>,print<memoryssa>,print<memoryssa>,print<memoryssa>,print<memoryssa>,print<memoryssa>";
 
 #[test]
 fn refused_words(rt: HostRuntime) -> Result<(), Fail> {

@@ -7,7 +7,7 @@ use Rattle.ms_ir.specs.Graph.{graph_of, successors}
 use Rattle.ms_ir.specs.declared.names.LocalNo.{LocalNo}
 use Rattle.ms_ir.specs.Func.{FuncState}
 use Rattle.ms_alias.specs.Roots.{Maker, step_in, step_by_maker, makes, maker_in, maker_from, or_else, Step}
-use Rattle.ms_alias.specs.Building.{HasNearSteps}
+use Rattle.ms_alias.specs.Offsets.{HasNearSteps}
 use Rattle.ms_session.specs.Shown.{NoSteps, MakesNoSteps}
 
 next_at : (blocks : List Block) (a : ℕ) → (block_at (graph_of blocks) a).next ≡ successors (get_or blocks a no_block).term

@@ -5,7 +5,7 @@ ghost use Rattle.ms_paths.specs.Flow.{IsClosed, IsReducible};
 ghost use Rattle.ms_ir.specs.Graph.{graph_of};
 ghost use Rattle.ms_flow.specs.Table.{edges_of};
 ghost use Rattle.ms_alias.specs.Roots.{step_in};
-ghost use Rattle.ms_alias.specs.Building.{HasNearSteps};
+ghost use Rattle.ms_alias.specs.Offsets.{HasNearSteps};
 ghost use Rattle.ms_session.specs.Shown.{MakesNoSteps};
 
 use crate::{Found, Session, one_annotated};

@@ -1,9 +1,9 @@
-use Rattle.std.proofs.Common.{◌≡◌, ◌∙◌, ℕ, List, ap, sym, subst, length, arith}
+use Rattle.std.proofs.Common.{◌∙◌, ℕ, List, ap, sym, subst, length, arith}
 use Rattle.ms_paths.specs.Flow.{Block as Run, IsReducible}
-use Rattle.ms_climb.specs.Chains.{stop_of}
 use Rattle.ms_climb.specs.Walk.{IsCollected}
-use Rattle.ms_climb.specs.Skips.{SkipsState, IsSkipping}
+use Rattle.ms_climb.specs.Skips.{IsSkipping}
 use Rattle.ms_climb.proofs.SkipLemmas.{skipping_none}
+use Rattle.ms_climb.proofs.NearLemmas.{near_last}
 use Rattle.ms_climb.proofs.Resolved.{found_last}
 use Rattle.ms_climb.proofs.search.climb.Goals as goal
 
@@ -29,3 +29,13 @@ returns g c =
     (c.same_paths.ensures.edges func.blocks) (c.same_paths.ensures.reached func.blocks) (c.order_told.ensures.reached gr closed) (c.sources_told.ensures.edges gr closed) (c.sources_told.ensures.all gr closed)
     c.answer_lies_on_every.ensures E c.args.start c.in_ok-walk.walk c.settle.new.self size collected c.settle.ensures c.walk_answers.ensures c.requires.defs reducible c.root.result
     (λ go l. ap go (sym c.stop.ensures) ∙ c.root.ensures.leads go l)
+
+pub returns-in-Some : goal.returns-in-Some
+returns-in-Some g c =
+    let func = c.args.func.now in
+    let gr = c.args.flow.now.graph in
+    let closed = rw (← c.requires.graph) at (c.same_paths.ensures.closed func.blocks c.requires.closed) in
+    let reducible = (c.same_paths.ensures.reducible func.blocks).0 (subst IsReducible c.requires.graph c.requires.reducible) in
+    near_last func gr c.args.form.now c.requires.graph c.requires.form c.numbered.ensures.one_place c.numbered.ensures.below_made c.requires.closed
+    (c.same_paths.ensures.edges func.blocks) (c.same_paths.ensures.reached func.blocks) (c.order_told.ensures.reached gr closed) (c.sources_told.ensures.edges gr closed) (c.sources_told.ensures.all gr closed)
+    c.answer_lies_on_every.ensures (g.W.Writes.test c.args.counted.now) c.args.start c.in-Some.found c.in-Some.ensures c.walk_answers.ensures c.requires.defs reducible

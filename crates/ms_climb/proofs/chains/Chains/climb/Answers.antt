@@ -1,6 +1,4 @@
-use Rattle.std.proofs.Common.{◌≡◌, List, Option, ap, arith}
-use Rattle.ms_form.specs.declared.access.Access.{Access}
-use Rattle.ms_climb.specs.declared.chains.Mark.{Mark}
+use Rattle.std.proofs.Common.{◌≡◌, ap, arith}
 use Rattle.ms_climb.specs.declared.chains.Mark.TheVariants.{Counts, Passed}
 use Rattle.ms_climb.specs.Chains.{ChainsState}
 use Rattle.ms_climb.proofs.Options.{free_set}

@@ -1,8 +1,8 @@
-use Rattle.std.proofs.Common.{◌≡◌, ◌∙◌, ◌-◌, Bool, true, false, refl, ap, sym, subst, length, arith, MatchBool}
+use Rattle.std.proofs.Common.{◌≡◌, ◌∙◌, ◌-◌, ap, sym, subst, length, arith}
 use Rattle.ms_climb.specs.Walk.{phi_at}
-use Rattle.ms_climb.specs.Skips.{HasFewer, IsDone, AreDone}
+use Rattle.ms_climb.specs.Skips.{IsDone}
 use Rattle.ms_climb.proofs.WalkLemmas.{get_or_of}
-use Rattle.ms_climb.proofs.SkipLemmas.{IsSweptDown, swept_out, swept_left, swept_all}
+use Rattle.ms_climb.proofs.SkipLemmas.{swept_out, swept_left, swept_all}
 use Rattle.ms_climb.proofs.skips.Skips.sweep_down.Goals as goal
 use Rattle.ms_climb.proofs.skips.Skips.sweep_down.Goals.{then-try_skip, else-try_skip}
 

@@ -1,5 +1,4 @@
-use Rattle.std.proofs.Common.{◌≡◌, ◌<◌, None, length, refl, sym, subst, arith}
-use Rattle.ms_flow.specs.Flow.{sources_of}
+use Rattle.std.proofs.Common.{◌≡◌, ◌<◌, None, length, refl, subst, arith}
 use Rattle.ms_form.specs.declared.access.Access.TheVariants.{Phi}
 use Rattle.ms_climb.specs.Skips.{skip_of, IsOnlyWay, HasTwoWays}
 use Rattle.ms_climb.proofs.SkipLemmas.{none_of, skipping_more, fewer_kept}

@@ -1,7 +1,7 @@
 use Rattle.std.proofs.Common.{◌≡◌, ◌<◌, ◌∙◌, sym, subst, ap, length, arith}
 use Rattle.ms_ir.specs.declared.names.BlockNo.{BlockNo}
 use Rattle.ms_climb.specs.Walk.{phi_at, IsWalked}
-use Rattle.ms_climb.proofs.WalkLemmas.{get_or_of, walked_none, no_walk, insts_none, blocks_none, sees_grown, collected_more}
+use Rattle.ms_climb.proofs.WalkLemmas.{get_or_of, walked_none, insts_none, blocks_none, sees_grown, collected_more}
 use Rattle.ms_climb.proofs.walk.Walk.collect.Goals as goal
 
 pub reach-requires : goal.reach-requires
