@@ -18,7 +18,7 @@ use Rattle.ms_resolve.specs.Shape.{InstLine, BlockLines, FuncLines, ItemLines, l
 use Rattle.ms_resolve.specs.Scope.{Scope, value_of, inst_of, placed_at, local_behind, locals_behind, insts_from, blocks_from, func_of}
 use Rattle.ms_alias.specs.declared.loc.Root.{Root}
 use Rattle.ms_alias.specs.Roots.{Maker, Step, step_by, step_in, step_by_maker, makes, maker_in, maker_from, or_else, pointer_of}
-use Rattle.ms_alias.specs.Building.{IsNear, greatest_offset, HasNearSteps}
+use Rattle.ms_alias.specs.Offsets.{IsNear, greatest_offset, AreOffsetsNear}
 use Rattle.ms_output.specs.Forms.{AreSmall, IsSmallAt}
 
 pub each_front : {A : Type 0} (P : A → Type 0) (xs ys : List A) → Each P (xs ++ ys) → Each P xs
@@ -101,6 +101,6 @@ near_blocks s b n l k (x ∷ xs) m st small e =
     (near_blocks s (suc b) (n + length x.insts) (locals_behind l x.insts) (suc k) xs m st rest)
     e
 
-pub func_near : (s : Scope) (r : ℕ) (f : FuncLines) → AreSmall (func_lines f) → HasNearSteps (func_of s r f)
+pub func_near : (s : Scope) (r : ℕ) (f : FuncLines) → AreSmall (func_lines f) → AreOffsetsNear (func_of s r f)
 func_near s r f small m st e =
     near_blocks s 0 0 (length f.head.params) 0 f.blocks m st (each_front IsSmallAt (flat_map block_lines f.blocks) ((f.close, said.Close) ∷ []) small.1) e

@@ -26,7 +26,7 @@ use Rattle.ms_resolve.specs.Made.{Made, makes, param_made, inst_made, label_made
 use Rattle.ms_resolve.specs.Scope.{Scope, or_first, number_of_name, term_of, locals_behind, blocks_from, func_of}
 use Rattle.ms_resolve.specs.Module.{scope_of, bodies_in}
 use Rattle.ms_valid.specs.Cause.{IsAccepted}
-use Rattle.ms_alias.specs.Building.{HasNearSteps}
+use Rattle.ms_alias.specs.Offsets.{AreOffsetsNear}
 use Rattle.ms_output.specs.Forms.{AreOpen, AreSmall, IsSmallAt}
 use Rattle.ms_output.proofs.Near.{each_front, each_rest, func_near}
 
@@ -213,5 +213,5 @@ open_of draft m small a n f e =
     let b = body_from scope whole.spare a.items a.named.shape.each (subst AreSmall a.named.shape.lines small) n f (ap (λ k. slice_get (bodies_of k) n) (sym whole.module_is) ∙ e) in
     let closed : IsClosed (graph_of f.blocks) =
     subst (λ (g : FuncState). IsClosed (graph_of g.blocks)) b.func_is (func_closed (scope b.lines) (whole.spare b.lines.head.name) b.lines refl b.some) in
-    let near : HasNearSteps f = subst HasNearSteps b.func_is (func_near (scope b.lines) (whole.spare b.lines.head.name) b.lines b.small) in
+    let near : AreOffsetsNear f = subst AreOffsetsNear b.func_is (func_near (scope b.lines) (whole.spare b.lines.head.name) b.lines b.small) in
     (closed, reducible_by (graph_of f.blocks) closed (λ no. a.reducible n (record { f = f; body = e; irreducible = no })), near)

@@ -7,7 +7,7 @@ use Rattle.ms_ir.specs.Module.{ModuleState}
 use Rattle.ms_ir.specs.Symbols.{NamesState}
 use Rattle.ms_print.specs.Text.{module_text}
 use Rattle.ms_session.specs.Annotated.{IsAnnotated}
-use Rattle.ms_alias.specs.Building.{HasNearSteps}
+use Rattle.ms_alias.specs.Offsets.{AreOffsetsNear}
 use Rattle.ms_grammar.specs.Kept.{Each}
 use Rattle.ms_grammar.specs.Limits.{IsSmall}
 use Rattle.ms_grammar.specs.declared.line.Line.{Line}
@@ -49,7 +49,7 @@ pub record IsWrittenOf (wanted : Wanted) (m : ModuleState) (text : List ℕ) : T
 
 -- each function with a body may be opened
 abbrev pub AreOpen : ModuleState → Type 0
-AreOpen m = (n : ℕ) (f : FuncState) → slice_get m.bodies n ≡ Some (Some f) → IsClosed (graph_of f.blocks) × IsReducible (graph_of f.blocks) × HasNearSteps f
+AreOpen m = (n : ℕ) (f : FuncState) → slice_get m.bodies n ≡ Some (Some f) → IsClosed (graph_of f.blocks) × IsReducible (graph_of f.blocks) × AreOffsetsNear f
 
 -- each instruction of a draft is within its limits
 abbrev pub IsSmallAt : ℕ × Line → Type 0

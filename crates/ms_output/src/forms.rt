@@ -3,7 +3,7 @@ ghost use Rattle.std.specs.Prelude.{◌≡◌, ◌++◌, List, ℕ, IfOk, OnOk};
 ghost use Rattle.ms_paths.specs.Flow.{IsClosed, IsReducible};
 ghost use Rattle.ms_ir.specs.Graph.{graph_of};
 ghost use Rattle.ms_ir.specs.Module.{body_of};
-ghost use Rattle.ms_alias.specs.Building.{HasNearSteps};
+ghost use Rattle.ms_alias.specs.Offsets.{AreOffsetsNear};
 ghost use Rattle.ms_valid.specs.Faults.{body_there, bodies_there};
 ghost use Rattle.ms_output.specs.Forms.{header_part, line_feed, times, IsForm, AreForms, AreOpen, IsWrittenOf};
 
@@ -76,7 +76,7 @@ fn push_func(
 ) -> Result<Func, NoMemory>
     requires closed { IsClosed (graph_of func.blocks) }
     requires reducible { IsReducible (graph_of func.blocks) }
-    requires near { HasNearSteps func }
+    requires near { AreOffsetsNear func }
     ensures form { IfOk result (λ _. (form : List ℕ) × IsForm names.now func form × (all.new.items ≡ all.old.items ++ times prints form)) }
     ensures same { IfOk result (λ f. f ≡ func) }
 {

@@ -7,7 +7,7 @@ use Rattle.ms_ir.specs.Graph.{graph_of, successors}
 use Rattle.ms_ir.specs.declared.names.LocalNo.{LocalNo}
 use Rattle.ms_ir.specs.Func.{FuncState}
 use Rattle.ms_alias.specs.Roots.{Maker, step_in, step_by_maker, makes, maker_in, maker_from, or_else, Step}
-use Rattle.ms_alias.specs.Building.{HasNearSteps}
+use Rattle.ms_alias.specs.Offsets.{AreOffsetsNear}
 use Rattle.ms_session.specs.Shown.{NoSteps, MakesNoSteps}
 
 next_at : (blocks : List Block) (a : ℕ) → (block_at (graph_of blocks) a).next ≡ successors (get_or blocks a no_block).term
@@ -84,7 +84,7 @@ none_from : (k : ℕ) (blocks : List Block) (l : LocalNo) → MakesNoSteps block
 none_from k [] l h = refl
 none_from k (y ∷ blocks) l h = none_else (maker_in k y.insts l) (maker_from (suc k) blocks l) (none_in k y.insts l h.0) (none_from (suc k) blocks l h.1)
 
-pub none_near : (f : FuncState) → MakesNoSteps f.blocks → HasNearSteps f
+pub none_near : (f : FuncState) → MakesNoSteps f.blocks → AreOffsetsNear f
 none_near f h l s e =
     let clash : None ≡ Some s = sym (none_from 0 f.blocks l h) ∙ e in
     absurd (cc)

@@ -57,7 +57,7 @@ impl Session {
     ghost use Rattle.std.specs.Prelude.{◌≡◌, true};
     ghost use Rattle.ms_build.specs.Accesses.{event_of};
     ghost use Rattle.ms_climb.specs.Answer.{StandsReached};
-    ghost use Rattle.ms_alias.specs.Building.{HasNearSteps};
+    ghost use Rattle.ms_alias.specs.Offsets.{AreOffsetsNear};
     ghost use Rattle.ms_alias.specs.Tables.{IsAliasOf};
     ghost use Rattle.ms_walk.specs.Clobber.{IsClobber};
     ghost use Rattle.ms_session.specs.Annotated.{IsAnnotated, HasUses};
@@ -67,7 +67,7 @@ impl Session {
     pub fn start(alloc: Global, func: Func) -> Result<Session, NoMemory>
         requires closed { IsClosed (graph_of func.blocks) }
         requires reducible { IsReducible (graph_of func.blocks) }
-        requires near { HasNearSteps func }
+        requires near { AreOffsetsNear func }
         ensures { IfOk result (λ s. s ≡ func) }
     {
         ms_flow::same_paths();

@@ -5,7 +5,7 @@ ghost use Rattle.ms_paths.specs.Flow.{IsClosed, IsReducible};
 ghost use Rattle.ms_ir.specs.Graph.{graph_of};
 ghost use Rattle.ms_flow.specs.Table.{edges_of};
 ghost use Rattle.ms_alias.specs.Roots.{step_in};
-ghost use Rattle.ms_alias.specs.Building.{HasNearSteps};
+ghost use Rattle.ms_alias.specs.Offsets.{AreOffsetsNear};
 ghost use Rattle.ms_session.specs.Shown.{MakesNoSteps};
 
 use crate::{Found, Session, one_annotated};
@@ -136,7 +136,7 @@ fn test_loops(rt: &impl Abort, alloc: Global, f: &Func)
 // A function without getelementptrs passes no limit of theirs.
 fn no_steps(f: &Func)
     requires { MakesNoSteps f.now.blocks }
-    ensures { HasNearSteps f.now }
+    ensures { AreOffsetsNear f.now }
 {
     let _f = f;
 }
