@@ -1,25 +1,21 @@
 -- Which allocas are captured, as marks by column.
-use Rattle.std.proofs.Common.{◌≡◌, ◌<◌, ◌≤◌, ◌+◌, ◌⊎◌, ◌↔◌, ℕ, zero, suc, Bool, true, false, List, [], ◌∷◌, ◌++◌, Option, Some, None, length, get_or, take, refl, sym, ap, ◌∙◌, subst, inl, inr, ⊎_elim, arith}
-use Rattle.std.specs.Prelude.{slice_get, Contains}
-use Rattle.std.proofs.lemmas.Bool.{both_ways, cases_eq, cases_lt, false≢true}
-use Rattle.std.proofs.lemmas.Option.{slice_get_within}
+use Rattle.std.proofs.Common.{◌≡◌, ◌<◌, ◌+◌, ◌⊎◌, ◌↔◌, ℕ, Bool, true, false, List, [], ◌∷◌, ◌++◌, Option, Some, None, length, get_or, take, refl, sym, ap, ◌∙◌, subst, inl, inr, ⊎_elim, arith}
+use Rattle.std.specs.Prelude.{Contains}
+use Rattle.std.proofs.lemmas.Bool.{both_ways, cases_eq}
 use Rattle.std.proofs.lemmas.List.{take_more}
 use Rattle.std.proofs.lemmas.List.Elements.{Contains-push, Contains-push_cases, Contains-append_left}
-use Rattle.ms_ir.specs.declared.names.LocalNo.{LocalNo}
 use Rattle.ms_ir.specs.declared.names.InstNo.{InstNo}
 use Rattle.ms_ir.specs.declared.inst.Val.{Val}
 use Rattle.ms_ir.specs.declared.inst.Arg.{Arg}
 use Rattle.ms_ir.specs.declared.inst.Inst.{Inst}
-use Rattle.ms_ir.specs.Func.{Placed, Block, FuncState, IsAt, IsNowhere}
+use Rattle.ms_ir.specs.Func.{Placed, FuncState, IsAt, IsNowhere}
 use Rattle.ms_ir.specs.Locals.{IsNumbered}
 use Rattle.ms_alias.specs.declared.loc.Root.{Root}
-use Rattle.ms_alias.specs.declared.loc.Root.TheVariants.{Local, Global}
-use Rattle.ms_alias.specs.declared.sets.Set.{Set}
-use Rattle.ms_alias.specs.declared.sets.Set.TheVariants.{Nothing, Argument, Alloca, Object, Brought}
+use Rattle.ms_alias.specs.declared.sets.Set.TheVariants.{Nothing, Alloca}
 use Rattle.ms_alias.specs.Roots.{pointer_of}
 use Rattle.ms_alias.specs.Captured.{args_of, skips}
-use Rattle.ms_alias.specs.Tables.{BasesState, set_of, set_of_option, val_set}
-use Rattle.ms_alias.specs.Building.{Adds, HaveColumns, IsAllocaOf, IsKeptBy, IsKeptAt, IsCountedAs}
+use Rattle.ms_alias.specs.Tables.{BasesState, set_of_option, val_set}
+use Rattle.ms_alias.specs.Building.{Adds, HaveColumns, IsKeptBy, IsKeptAt, IsCountedAs}
 use Rattle.ms_alias.proofs.Makers.{not_nowhere}
 
 pub val_columns : (t : BasesState) → HaveColumns t → (v : Val) (c : ℕ) → val_set t v ≡ Alloca c → c < length t.columns
@@ -38,9 +34,9 @@ pub adds_more : (P Q R : ℕ → Type 0) (xs ys zs : List Bool) → Adds P xs ys
 adds_more P Q R xs ys zs a b cases back = record {
   len = b.len ∙ a.len;
   each = λ c. (
-      λ h. ⊎_elim (λ (y : get_or ys c false ≡ true). ⊎_elim (λ (x : get_or xs c false ≡ true). inl x) (λ (p : P c). inr (back c (inl p))) ((a.each c).0 y)) (λ (q : Q c). inr (back c (inr q))) ((b.each c).0 h),
-      λ h. ⊎_elim (λ (x : get_or xs c false ≡ true). (b.each c).1 (inl ((a.each c).1 (inl x)))) (λ (r : R c). ⊎_elim (λ (p : P c). (b.each c).1 (inl ((a.each c).1 (inr p)))) (λ (q : Q c). (b.each c).1 (inr q)) (cases c r)) h,
-    );
+    λ h. ⊎_elim (λ (y : get_or ys c false ≡ true). ⊎_elim (λ (x : get_or xs c false ≡ true). inl x) (λ (p : P c). inr (back c (inl p))) ((a.each c).0 y)) (λ (q : Q c). inr (back c (inr q))) ((b.each c).0 h),
+    λ h. ⊎_elim (λ (x : get_or xs c false ≡ true). (b.each c).1 (inl ((a.each c).1 (inl x)))) (λ (r : R c). ⊎_elim (λ (p : P c). (b.each c).1 (inl ((a.each c).1 (inr p)))) (λ (q : Q c). (b.each c).1 (inr q)) (cases c r)) h,
+  );
 }
 
 -- one more argument
@@ -49,25 +45,25 @@ pub adds_arg : (t : BasesState) (args : List Arg) (k : ℕ) (a : Arg) (xs ys zs 
 adds_arg t args k a xs ys zs lt is old new =
     adds_more (IsKeptAt t (take k args)) (IsKeptBy t a) (IsKeptAt t (take (k + 1) args)) xs ys zs old new
     (λ c r.
-      let there = subst (λ ws. Contains ws r.0) more r.1 in
-      ⊎_elim
-      (λ (h : Contains (take k args) r.0). inl (r.0, h, r.2))
-      (λ (e : a ≡ r.0). inr (subst (λ b. IsKeptBy t b c) (sym e) r.2))
-      (Contains-push_cases (take k args) a r.0 there))
+    let there = subst (λ ws. Contains ws r.0) more r.1 in
+    ⊎_elim
+    (λ (h : Contains (take k args) r.0). inl (r.0, h, r.2))
+    (λ (e : a ≡ r.0). inr (subst (λ b. IsKeptBy t b c) (sym e) r.2))
+    (Contains-push_cases (take k args) a r.0 there))
     (λ c h. ⊎_elim
-      (λ (p : IsKeptAt t (take k args) c). (p.0, subst (λ ws. Contains ws p.0) (sym more) (Contains-append_left (take k args) (a ∷ []) p.0 p.1), p.2))
-      (λ (q : IsKeptBy t a c). (a, subst (λ ws. Contains ws a) (sym more) (Contains-push (take k args) a), q))
-      h) where
-  more : take (k + 1) args ≡ take k args ++ a ∷ []
-  more = take_more args k a lt ∙ ap (λ b. take k args ++ b ∷ []) (sym is)
+    (λ (p : IsKeptAt t (take k args) c). (p.0, subst (λ ws. Contains ws p.0) (sym more) (Contains-append_left (take k args) (a ∷ []) p.0 p.1), p.2))
+    (λ (q : IsKeptBy t a c). (a, subst (λ ws. Contains ws a) (sym more) (Contains-push (take k args) a), q))
+    h) where
+      more : take (k + 1) args ≡ take k args ++ a ∷ []
+      more = take_more args k a lt ∙ ap (λ b. take k args ++ b ∷ []) (sym is)
 
 -- one more number
 pub counted_more : (t : BasesState) (f : FuncState) (skip : Option InstNo) (n : ℕ) (xs ys : List Bool) → ((c : ℕ) → (get_or xs c false ≡ true) ↔ ((i : ℕ) × (i < n) × IsCountedAs t f skip i c)) → Adds (IsCountedAs t f skip n) xs ys
     → (c : ℕ) → (get_or ys c false ≡ true) ↔ ((i : ℕ) × (i < n + 1) × IsCountedAs t f skip i c)
 counted_more t f skip n xs ys old new c = (
-      λ h. ⊎_elim (λ (x : get_or xs c false ≡ true). let o = (old c).0 x in (o.0, (let lt = o.1 in omega (arith, lt)), o.2)) (λ (q : IsCountedAs t f skip n c). (n, (omega arith), q)) ((new.each c).0 h),
-      λ h. ⊎_elim (λ (e : h.0 ≡ n). (new.each c).1 (inr (subst (λ i. IsCountedAs t f skip i c) e h.2))) (λ (ne : h.0 ≡ n → ⊥). (new.each c).1 (inl ((old c).1 (h.0, (let lt = h.1 in omega (arith, lt, ne)), h.2)))) (cases_eq h.0 n),
-    )
+  λ h. ⊎_elim (λ (x : get_or xs c false ≡ true). let o = (old c).0 x in (o.0, (let lt = o.1 in omega (arith, lt)), o.2)) (λ (q : IsCountedAs t f skip n c). (n, (omega arith), q)) ((new.each c).0 h),
+  λ h. ⊎_elim (λ (e : h.0 ≡ n). (new.each c).1 (inr (subst (λ i. IsCountedAs t f skip i c) e h.2))) (λ (ne : h.0 ≡ n → ⊥). (new.each c).1 (inl ((old c).1 (h.0, (let lt = h.1 in omega (arith, lt, ne)), h.2)))) (cases_eq h.0 n),
+)
 
 pub nowhere_counted : (t : BasesState) (f : FuncState) (skip : Option InstNo) (i c : ℕ) → IsNowhere f.blocks i → IsCountedAs t f skip i c → ⊥
 nowhere_counted t f skip i c no_where h = not_nowhere f.blocks i h.0 h.1 h.2 h.3 no_where
@@ -82,9 +78,9 @@ pub adds_number : (t : BasesState) (f : FuncState) (skip : Option InstNo) (i : �
 adds_number t f skip i inst xs ys found each free a = record {
   len = a.len;
   each = λ c. (
-      λ h. ⊎_elim (λ (x : get_or xs c false ≡ true). inl x) (λ (p : IsKeptAt t (args_of inst) c). inr (found.0, found.1, found.2, found.3, free, subst (λ w. IsKeptAt t (args_of w) c) (sym found.4) p)) ((a.each c).0 h),
-      λ h. (a.each c).1 (⊎_elim (λ (x : get_or xs c false ≡ true). inl x) (λ (p : IsCountedAs t f skip i c). inr (subst (λ w. IsKeptAt t (args_of w) c) (each p.0 p.1 p.2 p.3) p.5)) h),
-    );
+    λ h. ⊎_elim (λ (x : get_or xs c false ≡ true). inl x) (λ (p : IsKeptAt t (args_of inst) c). inr (found.0, found.1, found.2, found.3, free, subst (λ w. IsKeptAt t (args_of w) c) (sym found.4) p)) ((a.each c).0 h),
+    λ h. (a.each c).1 (⊎_elim (λ (x : get_or xs c false ≡ true). inl x) (λ (p : IsCountedAs t f skip i c). inr (subst (λ w. IsKeptAt t (args_of w) c) (each p.0 p.1 p.2 p.3) p.5)) h),
+  );
 }
 
 -- no number from made on is there

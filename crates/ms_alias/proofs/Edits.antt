@@ -1,19 +1,19 @@
 -- What a put and a take of an instruction that makes no pointer leave.
-use Rattle.std.proofs.Common.{◌≡◌, ◌<◌, ◌≤◌, ◌+◌, ◌⊎◌, ◌↔◌, ℕ, zero, suc, Bool, true, false, cond, List, [], ◌∷◌, Option, Some, None, length, get_or, set, eqb, refl, sym, ap, ◌∙◌, subst, inl, inr, ⊎_elim, get_or-set_other, get_or-set_same, arith}
-use Rattle.std.specs.Prelude.{slice_get, insert, remove, ◌&&◌}
-use Rattle.std.proofs.lemmas.Bool.{both_ways, cases_eq, cond-false, eqb-true, eqb-false, ne_eqb, and_left}
+use Rattle.std.proofs.Common.{◌≡◌, ◌<◌, ◌↔◌, ℕ, zero, suc, false, cond, List, [], ◌∷◌, Some, None, length, get_or, set, refl, sym, ap, ◌∙◌, subst, ⊎_elim, get_or-set_other, get_or-set_same, arith}
+use Rattle.std.specs.Prelude.{slice_get, insert, remove}
+use Rattle.std.proofs.lemmas.Bool.{cases_eq, cond-false, eqb-false, ne_eqb, and_left}
 use Rattle.ms_ir.specs.declared.names.LocalNo.{LocalNo}
 use Rattle.ms_ir.specs.declared.names.InstNo.{InstNo}
 use Rattle.ms_ir.specs.declared.names.Name.{Name}
 use Rattle.ms_ir.specs.declared.inst.Inst.{Inst}
 use Rattle.ms_ir.specs.Inst.{result_for}
-use Rattle.ms_ir.specs.Func.{Placed, Block, FuncState, IsAt, IsTaken, no_block, insts_at, with_insts, put_at, cut_at, after_put}
+use Rattle.ms_ir.specs.Func.{Placed, Block, FuncState, IsAt, IsTaken, no_block, insts_at, with_insts, cut_at, after_put}
 use Rattle.ms_ir.specs.Locals.{IsNumbered}
 use Rattle.ms_ir.specs.Graph.{successors}
 use Rattle.ms_flow.specs.Table.{edges_of, run_to}
-use Rattle.ms_alias.specs.Roots.{Maker, makes, makes_pointer, is_local, maker_in, maker_from, maker_of, or_else}
+use Rattle.ms_alias.specs.Roots.{makes, makes_pointer, is_local, maker_in, maker_from, or_else}
 use Rattle.ms_alias.specs.Bases.{Alloca as AllocaBase}
-use Rattle.ms_alias.specs.Captured.{IsCaptured, IsCapturedBut, IsKept, skips}
+use Rattle.ms_alias.specs.Captured.{IsCaptured, IsCapturedBut, skips}
 use Rattle.ms_alias.specs.Tables.{AliasState, IsAliasOf, HasPointers, IsCapturesBut}
 use Rattle.ms_alias.proofs.Same.{SamePointers, same_back, kept_same, pointers_same}
 
@@ -89,8 +89,8 @@ cut_from : (blocks : List Block) (b p c k : ℕ) (y : Placed) → b < length blo
 cut_from blocks b p c k y lt e =
     ⊎_elim
     (λ (is : c ≡ b).
-      let r = from_remove (insts_at blocks b) p k y (sym (ap (λ xs. slice_get xs k) (ap (insts_at (cut_at blocks b p)) is ∙ cut_here blocks b p lt)) ∙ e) in
-      (r.0, ap (λ n. slice_get (insts_at blocks n) r.0) is ∙ r.1, λ h. r.2 h.1))
+    let r = from_remove (insts_at blocks b) p k y (sym (ap (λ xs. slice_get xs k) (ap (insts_at (cut_at blocks b p)) is ∙ cut_here blocks b p lt)) ∙ e) in
+    (r.0, ap (λ n. slice_get (insts_at blocks n) r.0) is ∙ r.1, λ h. r.2 h.1))
     (λ (n : c ≡ b → ⊥). (k, sym (ap (λ xs. slice_get xs k) (cut_there blocks b p c n)) ∙ e, λ h. n h.0))
     (cases_eq c b)
 
@@ -98,8 +98,8 @@ cut_to : (blocks : List Block) (b p c j : ℕ) (y : Placed) → b < length block
 cut_to blocks b p c j y lt e n =
     ⊎_elim
     (λ (is : c ≡ b).
-      let r = to_remove (insts_at blocks b) p j y (ap (λ m. slice_get (insts_at blocks m) j) (sym is) ∙ e) (λ h. n (is, h)) in
-      (r.0, ap (λ xs. slice_get xs r.0) (ap (insts_at (cut_at blocks b p)) is ∙ cut_here blocks b p lt) ∙ r.1))
+    let r = to_remove (insts_at blocks b) p j y (ap (λ m. slice_get (insts_at blocks m) j) (sym is) ∙ e) (λ h. n (is, h)) in
+    (r.0, ap (λ xs. slice_get xs r.0) (ap (insts_at (cut_at blocks b p)) is ∙ cut_here blocks b p lt) ∙ r.1))
     (λ (ne : c ≡ b → ⊥). (j, ap (λ xs. slice_get xs j) (cut_there blocks b p c ne) ∙ e))
     (cases_eq c b)
 
@@ -107,14 +107,14 @@ cut_to blocks b p c j y lt e n =
 captured_cut : (f : FuncState) → IsNumbered f → (i : InstNo) (b place : ℕ) (x : Placed) → IsAt f.blocks i.0 b place x → SamePointers f (record f { blocks = cut_at f.blocks b place }) → (l : LocalNo)
     → IsCaptured (record f { blocks = cut_at f.blocks b place }) l ↔ IsCapturedBut f (Some i) l
 captured_cut f n i b place x at s l = (
-      λ h.
-        let r = cut_from f.blocks b place h.0 h.1 h.2 at.block h.3 in
-        let other : skips (Some i) h.2.number ≡ false = ne_eqb i.0 h.2.number (λ e. r.2 (n.one_place h.0 r.0 b place h.2 x r.1 at.found (sym e ∙ sym at.numbered))) in
-        (h.0, r.0, h.2, r.1, other, kept_same (record f { blocks = cut_at f.blocks b place }) f (same_back f (record f { blocks = cut_at f.blocks b place }) s) h.2.inst (AllocaBase l) h.4),
-      λ h.
-        let r = cut_to f.blocks b place h.0 h.1 h.2 at.block h.3 (λ p. eqb-false i.0 h.2.number h.4 (sym at.numbered ∙ number_at h.0 h.1 h.2 h.3 p)) in
-        (h.0, r.0, h.2, r.1, kept_same f (record f { blocks = cut_at f.blocks b place }) s h.2.inst (AllocaBase l) h.5),
-    ) where
+  λ h.
+      let r = cut_from f.blocks b place h.0 h.1 h.2 at.block h.3 in
+      let other : skips (Some i) h.2.number ≡ false = ne_eqb i.0 h.2.number (λ e. r.2 (n.one_place h.0 r.0 b place h.2 x r.1 at.found (sym e ∙ sym at.numbered))) in
+      (h.0, r.0, h.2, r.1, other, kept_same (record f { blocks = cut_at f.blocks b place }) f (same_back f (record f { blocks = cut_at f.blocks b place }) s) h.2.inst (AllocaBase l) h.4),
+  λ h.
+      let r = cut_to f.blocks b place h.0 h.1 h.2 at.block h.3 (λ p. eqb-false i.0 h.2.number h.4 (sym at.numbered ∙ number_at h.0 h.1 h.2 h.3 p)) in
+      (h.0, r.0, h.2, r.1, kept_same f (record f { blocks = cut_at f.blocks b place }) s h.2.inst (AllocaBase l) h.5),
+) where
   number_at : (c j : ℕ) (y : Placed) → slice_get (insts_at f.blocks c) j ≡ Some y → (c ≡ b) × (j ≡ place) → x.number ≡ y.number
   number_at c j y e p =
       let same : Some x ≡ Some y = sym at.found ∙ ap (λ m. slice_get (insts_at f.blocks m) place) (sym p.0) ∙ ap (slice_get (insts_at f.blocks c)) (sym p.1) ∙ e in

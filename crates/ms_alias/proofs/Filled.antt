@@ -1,20 +1,19 @@
 -- The rows of all locals.
-use Rattle.std.proofs.Common.{◌≡◌, ◌<◌, ◌≤◌, ◌+◌, ◌⊎◌, ◌↔◌, ℕ, zero, suc, Bool, true, false, List, [], ◌∷◌, Option, Some, None, length, get_or, set, refl, sym, ap, ◌∙◌, subst, inl, inr, ⊎_elim, get_or-set_other, get_or-set_same, arith}
-use Rattle.std.specs.Prelude.{slice_get, Contains}
+use Rattle.std.proofs.Common.{◌≡◌, ◌<◌, ◌≤◌, ◌+◌, ℕ, zero, suc, true, List, [], Some, None, length, get_or, set, refl, sym, ap, ◌∙◌, subst, inl, inr, ⊎_elim, get_or-set_other, arith}
+use Rattle.std.specs.Prelude.{Contains}
 use Rattle.std.proofs.lemmas.Bool.{both_ways, cases_eq, cases_lt}
 use Rattle.std.proofs.lemmas.List.{length-set, get_or_past}
 use Rattle.ms_ir.specs.declared.names.LocalNo.{LocalNo}
-use Rattle.ms_ir.specs.declared.names.GlobalNo.{GlobalNo}
 use Rattle.ms_ir.specs.declared.inst.Inst.{Inst}
-use Rattle.ms_ir.specs.declared.inst.Inst.TheVariants.{Alloca as AllocaInst, Gep, Load, Store, Copy, Call, Bin, Cmp, Select, Cast, Phi}
+use Rattle.ms_ir.specs.declared.inst.Inst.TheVariants.{Alloca as AllocaInst}
 use Rattle.ms_ir.specs.Func.{FuncState}
 use Rattle.ms_alias.specs.declared.loc.Root.{Root}
 use Rattle.ms_alias.specs.declared.loc.Root.TheVariants.{Local, Global}
 use Rattle.ms_alias.specs.declared.sets.Set.{Set}
 use Rattle.ms_alias.specs.declared.sets.Set.TheVariants.{Nothing, Argument, Alloca, Object, Brought}
 use Rattle.ms_alias.specs.Roots.{Maker, maker_of, is_alloca}
-use Rattle.ms_alias.specs.Bases.{Base, Alloca as AllocaBase, Argument as ArgumentBase, HasBase, IsNamed, IsBrought, IsArgument, leads_of, leads_in, pointers_in, sources_in}
-use Rattle.ms_alias.specs.Tables.{RowState, no_row, BasesState, set_of, row_of, base_of, IsColumn, IsRow, IsFor, IsSet, IsBases, HasRoom, HasOneBase}
+use Rattle.ms_alias.specs.Bases.{Base, Alloca as AllocaBase, Argument as ArgumentBase, IsNamed, IsBrought, IsArgument, leads_of, leads_in, pointers_in, sources_in}
+use Rattle.ms_alias.specs.Tables.{RowState, no_row, BasesState, set_of, row_of, IsColumn, IsRow, IsFor, IsSet, IsBases, HasRoom}
 use Rattle.ms_alias.proofs.Rings.{local}
 
 -- a row tells the same where other rows stand beside it
@@ -53,18 +52,20 @@ filled_more f old t new l room a lt kept row len = record {
   same = kept ∙ ap (λ (b : BasesState). record b { rows = set t.rows l (row_of new l) }) a.same ∙ sym (ap (λ rs. record old { rows = rs }) rows);
   len = ap length rows ∙ length-set t.rows l (row_of new l) ∙ a.len;
   bits = λ j k e. ⊎_elim
-    (λ (is : k ≡ l). subst (λ n. length (row_of new n).bits ≡ length old.columns) (sym is) len)
-    (λ (n : k ≡ l → ⊥). ap (λ (r : RowState). length r.bits) (others k n) ∙ a.bits j k e)
-    (cases_eq k l);
+      (λ (is : k ≡ l). subst (λ n. length (row_of new n).bits ≡ length old.columns) (sym is) len)
+      (λ (n : k ≡ l → ⊥). ap (λ (r : RowState). length r.bits) (others k n) ∙ a.bits j k e)
+      (cases_eq k l);
   filled = λ j k h e. ⊎_elim
-    (λ (is : j.0 ≡ l). here j is)
-    (λ (n : j.0 ≡ l → ⊥). subst (IsRow old f (Local j)) (sym (others j.0 n)) (a.filled j k (omega (arith, n)) e))
-    (cases_eq j.0 l);
+      (λ (is : j.0 ≡ l). here j is)
+      (λ (n : j.0 ≡ l → ⊥). subst (IsRow old f (Local j)) (sym (others j.0 n)) (a.filled j k (omega (arith, n)) e))
+      (cases_eq j.0 l);
 } where
   rows : new.rows ≡ set t.rows l (row_of new l)
   rows = ap (λ (b : BasesState). b.rows) kept
+
   others : (k : ℕ) → (k ≡ l → ⊥) → row_of new k ≡ row_of t k
   others k n = ap (λ rs. get_or rs k no_row) rows ∙ get_or-set_other t.rows l k (row_of new l) no_row n
+
   here : (j : LocalNo) → j.0 ≡ l → IsRow old f (Local j) (row_of new j.0)
   here j is =
       let mine = row_beside f (record old { rows = t.rows }) old.rows (local l) (row_of new l) (subst (λ (b : BasesState). IsRow b f (local l) (row_of new l)) a.same row) in
@@ -86,20 +87,32 @@ plain_set t f l Nothing e h row = λ b base.
     (λ (a : ((m : Maker) × (maker_of f l ≡ Some m) × (is_alloca m.inst ≡ true)) × (b ≡ AllocaBase l)). let m = a.0 in let both : None ≡ Some m.0 = sym h.0 ∙ m.1 in cc)
     (λ (a : IsArgument f l × (b ≡ ArgumentBase l)). h.1 a.0)
     (no_lead f l (ap leads_in h.0) base.0 base.1 b base.2 base.3)
-plain_set t f l Argument e h row =
-    (l, ((zero, Local l, refl, inr (h.1, refl)), λ b base.
-      ⊎_elim
-      (λ (a : ((m : Maker) × (maker_of f l ≡ Some m) × (is_alloca m.inst ≡ true)) × (b ≡ AllocaBase l)). absurd (let m = a.0 in let both : None ≡ Some m.0 = sym h.0 ∙ m.1 in cc))
-      (λ (a : IsArgument f l × (b ≡ ArgumentBase l)). a.1)
-      (no_lead f l (ap leads_in h.0) base.0 base.1 b base.2 base.3)))
+plain_set t f l Argument e h row = (
+  l,
+  (
+    (zero, Local l, refl, inr (h.1, refl)),
+    λ b base.
+        ⊎_elim
+        (λ (a : ((m : Maker) × (maker_of f l ≡ Some m) × (is_alloca m.inst ≡ true)) × (b ≡ AllocaBase l)). absurd (let m = a.0 in let both : None ≡ Some m.0 = sym h.0 ∙ m.1 in cc))
+        (λ (a : IsArgument f l × (b ≡ ArgumentBase l)). a.1)
+        (no_lead f l (ap leads_in h.0) base.0 base.1 b base.2 base.3),
+  ),
+)
 plain_set t f l (Alloca c) e h row =
     let m = h.1 in
-    let none : leads_of f (Local l) ≡ [] = ap leads_in m.1 ∙ ap pointers_in (alloca_alone m.0.inst m.2) in
-    (l, ((zero, Local l, refl, inl (m, refl)), λ b base.
-      ⊎_elim
-      (λ (a : ((m : Maker) × (maker_of f l ≡ Some m) × (is_alloca m.inst ≡ true)) × (b ≡ AllocaBase l)). a.1)
-      (λ (a : IsArgument f l × (b ≡ ArgumentBase l)). absurd (h.2 a.0))
-      (no_lead f l none base.0 base.1 b base.2 base.3)), h.0, e)
+    let none : leads_of f (Local l) ≡ [] = ap leads_in m.1 ∙ ap pointers_in (alloca_alone m.0.inst m.2) in (
+      l,
+      (
+        (zero, Local l, refl, inl (m, refl)),
+        λ b base.
+            ⊎_elim
+            (λ (a : ((m : Maker) × (maker_of f l ≡ Some m) × (is_alloca m.inst ≡ true)) × (b ≡ AllocaBase l)). a.1)
+            (λ (a : IsArgument f l × (b ≡ ArgumentBase l)). absurd (h.2 a.0))
+            (no_lead f l none base.0 base.1 b base.2 base.3),
+      ),
+      h.0,
+      e,
+    )
 plain_set t f l (Object g) e h row = absurd h
 plain_set t f l (Brought k) e h row = subst (λ n. IsRow t f (Local l) (row_of t n)) (sym h.0) (row k refl)
 
@@ -136,12 +149,12 @@ filled_skip f old t l a plain = record {
   len = a.len;
   bits = a.bits;
   filled = λ j k h e. ⊎_elim
-    (λ (is : j.0 ≡ l).
+      (λ (is : j.0 ≡ l).
       let P : ℕ → Type 0 = λ n. set_of t (local n) ≡ Brought k in
       let here : set_of t (Local j) ≡ Brought k = ap (λ (b : BasesState). set_of b (Local j)) a.same ∙ e in
       absurd (plain k (subst P is here)))
-    (λ (n : j.0 ≡ l → ⊥). a.filled j k (omega (arith, n)) e)
-    (cases_eq j.0 l);
+      (λ (n : j.0 ≡ l → ⊥). a.filled j k (omega (arith, n)) e)
+      (cases_eq j.0 l);
 }
 
 -- the row of a local that has one

@@ -1,14 +1,13 @@
 -- The search for the bases of a local.
-use Rattle.std.proofs.Common.{◌≡◌, ◌≢◌, ◌<◌, ◌≤◌, ◌+◌, ◌*◌, ◌⊎◌, ◌↔◌, ℕ, zero, suc, Bool, true, false, cond, List, [], ◌∷◌, ◌++◌, Option, Some, None, length, get_or, set, refl, sym, ap, ◌∙◌, subst, inl, inr, ⊎_elim, get_or-set_other, get_or-set_same, arith}
+use Rattle.std.proofs.Common.{◌≡◌, ◌<◌, ◌≤◌, ◌+◌, ◌*◌, ◌⊎◌, ℕ, zero, suc, Bool, true, false, List, [], ◌∷◌, ◌++◌, Option, Some, None, length, get_or, set, refl, sym, ap, ◌∙◌, subst, inl, inr, ⊎_elim, get_or-set_other, get_or-set_same, arith}
 use Rattle.std.proofs.Math.ListN.{replicate}
-use Rattle.std.specs.Prelude.{slice_get, Contains, IfNone}
-use Rattle.std.specs.Option.{option_to_list}
+use Rattle.std.specs.Prelude.{slice_get, Contains}
 use Rattle.std.proofs.lemmas.Bool.{both_ways, cases_eq, cases_Bool, cases_lt, false≢true, cond-true, cond-false}
 use Rattle.std.proofs.lemmas.List.{length-set, length-replicate, length-append, get_or_past}
 use Rattle.std.proofs.lemmas.Option.{slice_get_within}
 use Rattle.std.proofs.lemmas.List.Elements.{Contains-push, Contains-push_cases, Contains-append_left}
 use Rattle.ms_flow.specs.Walk.{unseen}
-use Rattle.ms_flow.proofs.Steps.{unseen-set, unseen_le}
+use Rattle.ms_flow.proofs.Steps.{unseen-set}
 use Rattle.ms_ir.specs.declared.names.LocalNo.{LocalNo}
 use Rattle.ms_ir.specs.declared.names.GlobalNo.{GlobalNo}
 use Rattle.ms_ir.specs.Func.{FuncState}
@@ -16,10 +15,10 @@ use Rattle.ms_alias.specs.declared.loc.Root.{Root}
 use Rattle.ms_alias.specs.declared.loc.Root.TheVariants.{Local, Global}
 use Rattle.ms_alias.specs.declared.sets.Set.{Set}
 use Rattle.ms_alias.specs.declared.sets.Set.TheVariants.{Nothing, Argument, Alloca, Object, Brought}
-use Rattle.ms_alias.specs.Roots.{Maker, maker_of, is_alloca}
-use Rattle.ms_alias.specs.Bases.{Base, Alloca as AllocaBase, Argument as ArgumentBase, Object as ObjectBase, Outside, Hidden, HasBase, IsNamed, IsBrought, IsArgument, IsAllocaLocal, leads_of, leads_in}
+use Rattle.ms_alias.specs.Roots.{Maker, is_alloca}
+use Rattle.ms_alias.specs.Bases.{Base, Alloca as AllocaBase, Argument as ArgumentBase, Object as ObjectBase, HasBase, IsNamed, IsBrought, IsArgument, IsAllocaLocal, leads_of, leads_in}
 use Rattle.ms_alias.specs.Meeting.{IsOuter, IsOuterBase}
-use Rattle.ms_alias.specs.Tables.{RowState, BasesState, set_of, bit_of, global_column, base_of, IsColumn, IsRow, IsFor, HasRoom}
+use Rattle.ms_alias.specs.Tables.{BasesState, set_of, bit_of, global_column, base_of, IsColumn, IsRow, IsFor, HasRoom}
 use Rattle.ms_alias.specs.Building.{FloodState, flood_begun, met, met_column, met_outer, met_argument, met_global, took, took_all, owned, visited}
 use Rattle.ms_alias.proofs.Meets.{HasArgument, at_column}
 use Rattle.ms_alias.proofs.Rings.{local, get_or-replicate}
@@ -56,10 +55,10 @@ set_keeps : (marks : List Bool) (m x : ℕ) → get_or marks x false ≡ true �
 set_keeps marks m x h =
     ⊎_elim
     (λ (e : x ≡ m).
-      ⊎_elim
-      (λ (lt : m < length marks). ap (λ k. get_or (set marks m true) k false) e ∙ get_or-set_same marks m true false lt)
-      (λ (ge : length marks ≤ m). absurd (both_ways (get_or marks x false) (let far : length marks ≤ x = omega arith in get_or_past marks x false far) h))
-      (cases_lt m (length marks)))
+    ⊎_elim
+    (λ (lt : m < length marks). ap (λ k. get_or (set marks m true) k false) e ∙ get_or-set_same marks m true false lt)
+    (λ (ge : length marks ≤ m). absurd (both_ways (get_or marks x false) (let far : length marks ≤ x = omega arith in get_or_past marks x false far) h))
+    (cases_lt m (length marks)))
     (λ (n : x ≡ m → ⊥). get_or-set_other marks m x true false n ∙ h)
     (cases_eq x m)
 
@@ -147,9 +146,9 @@ took_taken : (t : BasesState) (p : Root) (s : FloodState) → length s.row.bits 
 took_taken t (Local y) s len =
     ⊎_elim
     (λ (h : (get_or s.marked y.0 true ≡ true) × (met y.0 s ≡ s)).
-      subst (λ u. y.0 < length u.marked → IsMarked u y.0) (sym h.1) (λ lt. other_default s.marked y.0 true lt h.0))
+    subst (λ u. y.0 < length u.marked → IsMarked u y.0) (sym h.1) (λ lt. other_default s.marked y.0 true lt h.0))
     (λ (h : (get_or s.marked y.0 true ≡ false) × (met y.0 s ≡ met_new y.0 s)).
-      subst (λ u. y.0 < length u.marked → IsMarked u y.0) (sym h.1) (λ lt. get_or-set_same s.marked y.0 true false (new_within s.marked y.0 h.0)))
+    subst (λ u. y.0 < length u.marked → IsMarked u y.0) (sym h.1) (λ lt. get_or-set_same s.marked y.0 true false (new_within s.marked y.0 h.0)))
     (met_is y.0 s)
 took_taken t (Global g) s len = global_taken (global_column t g) (λ c e. let at = slice_get_within t.columns c (Global g) (at_column t g c e) in omega arith) where
   global_taken : (o : Option ℕ) → ((c : ℕ) → o ≡ Some c → c < length s.row.bits) → ((met_global o s).row.outer ≡ true) × ((c : ℕ) → o ≡ Some c → HasBit (met_global o s) c)
@@ -311,17 +310,20 @@ flood_visited t f l m s room i marked =
 
 -- a local is taken up
 pub flood_next : (t : BasesState) (f : FuncState) (l m : ℕ) (s : FloodState) → IsFlood t f l None (record s { todo = s.todo ++ m ∷ [] }) → IsFlood t f l (Some m) s × IsMarked s m
-flood_next t f l m s i = (record {
-  reached = i.reached;
-  bits = i.bits;
-  argument = i.argument;
-  outer = i.outer;
-  done = λ x h. ⊎_elim (λ (e : None ≡ Some x). absurd (cc)) (λ (r : Contains (s.todo ++ m ∷ []) x ⊎ IsDone t f x (record s { todo = s.todo ++ m ∷ [] })). later x r) (i.done x h);
-  listed = λ x h. i.listed x (Contains-append_left s.todo (m ∷ []) x h);
-  start = i.start;
-  count = i.count;
-  columns = i.columns;
-}, i.listed m (Contains-push s.todo m)) where
+flood_next t f l m s i = (
+  record {
+    reached = i.reached;
+    bits = i.bits;
+    argument = i.argument;
+    outer = i.outer;
+    done = λ x h. ⊎_elim (λ (e : None ≡ Some x). absurd (cc)) (λ (r : Contains (s.todo ++ m ∷ []) x ⊎ IsDone t f x (record s { todo = s.todo ++ m ∷ [] })). later x r) (i.done x h);
+    listed = λ x h. i.listed x (Contains-append_left s.todo (m ∷ []) x h);
+    start = i.start;
+    count = i.count;
+    columns = i.columns;
+  },
+  i.listed m (Contains-push s.todo m),
+) where
   later : (x : ℕ) → Contains (s.todo ++ m ∷ []) x ⊎ IsDone t f x (record s { todo = s.todo ++ m ∷ [] }) → (Some m ≡ Some x) ⊎ (Contains s.todo x ⊎ IsDone t f x s)
   later x (inl c) = ⊎_elim (λ (h : Contains s.todo x). inr (inl h)) (λ (e : m ≡ x). inl (ap Some e)) (Contains-push_cases s.todo m x c)
   later x (inr d) = inr (inr (done_grows t f x (record s { todo = s.todo ++ m ∷ [] }) s (record { marks = λ y h. h; count = refl; bits = λ c h. h; columns = refl; argument = λ h. h; outer = λ h. h }) d))
@@ -344,10 +346,10 @@ flood_starts t f l lt =
       count = length-set begun.marked l true ∙ length-replicate count false;
       columns = length-replicate columns false;
     }) where
-  unmarked : (n k : ℕ) → k < n → get_or (replicate n false) k true ≡ false
-  unmarked zero k h = absurd (omega arith)
-  unmarked (suc n) zero h = refl
-  unmarked (suc n) (suc k) h = unmarked n k (omega arith)
+      unmarked : (n k : ℕ) → k < n → get_or (replicate n false) k true ≡ false
+      unmarked zero k h = absurd (omega arith)
+      unmarked (suc n) zero h = refl
+      unmarked (suc n) (suc k) h = unmarked n k (omega arith)
 
 pub all_done : (t : BasesState) (f : FuncState) (l : ℕ) (s : FloodState) → IsFlood t f l None s → s.todo ≡ [] → (x : ℕ) → IsMarked s x → IsDone t f x s
 all_done t f l s i none x h =
@@ -363,16 +365,16 @@ chain_taken t f l s room i none (suc n) (Global g) q h b = absurd (let c = b.1 i
 chain_taken t f l s room i none (suc n) (Local y) q h b =
     ⊎_elim
     (λ (lt : y.0 < length s.marked).
-      let d = all_done t f l s i none y.0 (h lt) in
-      chain_taken t f l s room i none n b.0 q (d.leads b.0 b.1) b.2)
+    let d = all_done t f l s i none y.0 (h lt) in
+    chain_taken t f l s room i none n b.0 q (d.leads b.0 b.1) b.2)
     (λ (ge : length s.marked ≤ y.0).
-      let nothing = no_leads y (let k = i.count in omega arith) in
-      absurd (let c = subst (λ ps. Contains ps b.0) nothing b.1 in let lt = c.1 in omega (arith, lt)))
+    let nothing = no_leads y (let k = i.count in omega arith) in
+    absurd (let c = subst (λ ps. Contains ps b.0) nothing b.1 in let lt = c.1 in omega (arith, lt)))
     (cases_lt y.0 (length s.marked)) where
-  no_leads : (y : LocalNo) → length t.sets ≤ y.0 → leads_of f (Local y) ≡ []
-  no_leads y ge =
-      let set : set_of t (Local y) ≡ Nothing = get_or_past t.sets y.0 Nothing ge in
-      ap leads_in (subst (IsFor t f y) set (room.sets y)).0
+      no_leads : (y : LocalNo) → length t.sets ≤ y.0 → leads_of f (Local y) ≡ []
+      no_leads y ge =
+          let set : set_of t (Local y) ≡ Nothing = get_or_past t.sets y.0 Nothing ge in
+          ap leads_in (subst (IsFor t f y) set (room.sets y)).0
 
 -- what the pointer at the end of a chain is was noted
 end_taken : (t : BasesState) (f : FuncState) (l : ℕ) (s : FloodState) → HasRoom t f → IsFlood t f l None s → s.todo ≡ [] → (q : Root) → IsBroughtTo f l q → IsTaken t q s
@@ -435,9 +437,9 @@ base_marked t f l s room i none (Global n) (Global g) b h =
     ⊎_elim
     (λ (same : local l ≡ Global g). absurd (cc))
     (λ (r : (r : Root) × Contains (leads_of f r) (Global g)).
-      let column = room.globals r.0 g r.1 in
-      let taken = end_taken t f l s room i none (Global g) b in
-      (column.0, ap (global_column t) is ∙ column.1, taken.1 column.0 column.1))
+    let column = room.globals r.0 g r.1 in
+    let taken = end_taken t f l s room i none (Global g) b in
+    (column.0, ap (global_column t) is ∙ column.1, taken.1 column.0 column.1))
     (last_lead f b.0 l (local l) g b.1)
 
 argument_marked : (t : BasesState) (f : FuncState) (l : ℕ) (s : FloodState) → HasRoom t f → IsFlood t f l None s → s.todo ≡ [] → (a : LocalNo) (r : Root) → IsBroughtTo f l r → IsNamed f r (ArgumentBase a) → s.row.argument ≡ true

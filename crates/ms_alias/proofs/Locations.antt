@@ -1,5 +1,5 @@
 -- One location at most, and tests for which instructions may write or read one.
-use Rattle.std.proofs.Common.{◌≡◌, ◌+◌, ◌⊎◌, ◌↔◌, ℕ, zero, suc, ℤ, Bool, true, false, List, [], ◌∷◌, Option, Some, None, eqb, refl, sym, ap, ◌∙◌, subst, inl, inr, ⊎_elim, arith}
+use Rattle.std.proofs.Common.{◌≡◌, ◌↔◌, ℕ, zero, suc, ℤ, Bool, true, false, List, [], ◌∷◌, Option, Some, None, eqb, refl, sym, ap, ◌∙◌, subst, ⊎_elim}
 use Rattle.std.specs.Prelude.{◌&&◌, ◌||◌, slice_get}
 use Rattle.std.proofs.lemmas.Bool.{eqb-true, eq-eqb, and_parts, and_from, or_cases, or_left, or_right, false≢true}
 use Rattle.ms_ir.specs.declared.names.InstNo.{InstNo}
@@ -13,7 +13,7 @@ use Rattle.ms_alias.specs.declared.loc.Root.{Root}
 use Rattle.ms_alias.specs.declared.loc.Loc.{Loc}
 use Rattle.ms_alias.specs.declared.loc.Loc.TheVariants.{Bytes, ReadBy}
 use Rattle.ms_alias.specs.Roots.{pointer_of, HasRoot}
-use Rattle.ms_alias.specs.Reaches.{Reach, Span, IsLocRead, IsLocWritten, ReadsLoc, WritesLoc, IsReachOf}
+use Rattle.ms_alias.specs.Reaches.{Reach, Span, IsLocRead, IsLocWritten, ReadsLoc, WritesLoc}
 use Rattle.ms_alias.specs.Meeting.{MayWrite, MayRead}
 use Rattle.ms_alias.specs.Tables.{AliasState, IsAliasOf, IsReachBy, read_reach, write_reach, reaches_meet, meet_in}
 use Rattle.ms_alias.proofs.RootLemmas.{one_root, read_from, read_to, written_from, written_to}
@@ -123,26 +123,26 @@ loc_to f a x y (ReadBy j) h e = at_to f.blocks j.0 (λ z. meet_in a (Some x) (re
 
 pub write_test : (f : FuncState) (a : AliasState) → IsAliasOf f a → (loc : Loc) → (t : ℕ → Bool) × ((i : ℕ) → (t i ≡ true) ↔ MayWrite f i loc)
 write_test f a is loc = (
-      λ i. any_at f.blocks i (λ x. meets_loc f a (write_reach a.origins x.inst) loc),
-      λ i. (
-        λ e.
-          let h = at_from f.blocks i (λ x. meets_loc f a (write_reach a.origins x.inst) loc) e in
-          let m = loc_from f a (write_reach a.origins h.2.inst) loc h.4 in
-          (h.0, h.1, h.2, h.3, m.0, m.1, written_from f a.origins h.2.inst m.0 is.origins m.2, reach_from f a.origins loc m.1 is.origins m.3, reaches_from f a is m.0 m.1 m.4),
-        λ h. at_to f.blocks i (λ x. meets_loc f a (write_reach a.origins x.inst) loc)
-          (h.0, h.1, h.2, h.3, ap (λ u. meets_loc f a u loc) (written_to f a.origins h.2.inst h.4 is.origins h.6) ∙ loc_to f a h.4 h.5 loc (reach_to f a.origins loc h.5 is.origins h.7) (reaches_to f a is h.4 h.5 h.8)),
-      ),
-    )
+  λ i. any_at f.blocks i (λ x. meets_loc f a (write_reach a.origins x.inst) loc),
+  λ i. (
+    λ e.
+        let h = at_from f.blocks i (λ x. meets_loc f a (write_reach a.origins x.inst) loc) e in
+        let m = loc_from f a (write_reach a.origins h.2.inst) loc h.4 in
+        (h.0, h.1, h.2, h.3, m.0, m.1, written_from f a.origins h.2.inst m.0 is.origins m.2, reach_from f a.origins loc m.1 is.origins m.3, reaches_from f a is m.0 m.1 m.4),
+    λ h. at_to f.blocks i (λ x. meets_loc f a (write_reach a.origins x.inst) loc)
+        (h.0, h.1, h.2, h.3, ap (λ u. meets_loc f a u loc) (written_to f a.origins h.2.inst h.4 is.origins h.6) ∙ loc_to f a h.4 h.5 loc (reach_to f a.origins loc h.5 is.origins h.7) (reaches_to f a is h.4 h.5 h.8)),
+  ),
+)
 
 pub read_test : (f : FuncState) (a : AliasState) → IsAliasOf f a → (loc : Loc) → (t : ℕ → Bool) × ((i : ℕ) → (t i ≡ true) ↔ MayRead f i loc)
 read_test f a is loc = (
-      λ i. any_at f.blocks i (λ x. meets_loc f a (read_reach a.origins x.inst) loc),
-      λ i. (
-        λ e.
-          let h = at_from f.blocks i (λ x. meets_loc f a (read_reach a.origins x.inst) loc) e in
-          let m = loc_from f a (read_reach a.origins h.2.inst) loc h.4 in
-          (h.0, h.1, h.2, h.3, m.0, m.1, read_from f a.origins h.2.inst m.0 is.origins m.2, reach_from f a.origins loc m.1 is.origins m.3, reaches_from f a is m.0 m.1 m.4),
-        λ h. at_to f.blocks i (λ x. meets_loc f a (read_reach a.origins x.inst) loc)
-          (h.0, h.1, h.2, h.3, ap (λ u. meets_loc f a u loc) (read_to f a.origins h.2.inst h.4 is.origins h.6) ∙ loc_to f a h.4 h.5 loc (reach_to f a.origins loc h.5 is.origins h.7) (reaches_to f a is h.4 h.5 h.8)),
-      ),
-    )
+  λ i. any_at f.blocks i (λ x. meets_loc f a (read_reach a.origins x.inst) loc),
+  λ i. (
+    λ e.
+        let h = at_from f.blocks i (λ x. meets_loc f a (read_reach a.origins x.inst) loc) e in
+        let m = loc_from f a (read_reach a.origins h.2.inst) loc h.4 in
+        (h.0, h.1, h.2, h.3, m.0, m.1, read_from f a.origins h.2.inst m.0 is.origins m.2, reach_from f a.origins loc m.1 is.origins m.3, reaches_from f a is m.0 m.1 m.4),
+    λ h. at_to f.blocks i (λ x. meets_loc f a (read_reach a.origins x.inst) loc)
+        (h.0, h.1, h.2, h.3, ap (λ u. meets_loc f a u loc) (read_to f a.origins h.2.inst h.4 is.origins h.6) ∙ loc_to f a h.4 h.5 loc (reach_to f a.origins loc h.5 is.origins h.7) (reaches_to f a is h.4 h.5 h.8)),
+  ),
+)

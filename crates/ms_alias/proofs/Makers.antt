@@ -1,8 +1,7 @@
 -- The instruction that makes a pointer, found block by block.
-use Rattle.std.proofs.Common.{◌≡◌, ◌+◌, ◌⊎◌, ℕ, zero, suc, Bool, true, false, List, [], ◌∷◌, Option, Some, None, cond, eqb, refl, sym, ap, ◌∙◌, inl, inr, ⊎_elim, arith}
+use Rattle.std.proofs.Common.{◌≡◌, ◌+◌, ◌⊎◌, ℕ, zero, suc, Bool, true, false, List, [], ◌∷◌, Option, Some, None, cond, refl, sym, ap, ◌∙◌, inl, inr, ⊎_elim, arith}
 use Rattle.std.specs.Prelude.{◌&&◌, not, slice_get, option_map}
 use Rattle.std.proofs.lemmas.Bool.{eqb-true, eq-eqb, and_parts, and_from, and_cases, both_ways, false≢true, cond-true, cond-false, not-true, not-false, cases_Bool}
-use Rattle.std.proofs.lemmas.Option.{slice_get_within}
 use Rattle.ms_ir.specs.declared.names.LocalNo.{LocalNo}
 use Rattle.ms_ir.specs.declared.inst.Inst.{Inst}
 use Rattle.ms_ir.specs.Func.{Placed, Block, FuncState, insts_at, NotNumbered, IsNowhere, IsAt, node_parts, parts_of}
@@ -52,9 +51,9 @@ maker_in_found b (y ∷ ys) l zero x e t = (maker_at b y, let same : y ≡ x = c
 maker_in_found b (y ∷ ys) l (suc k) x e t =
     let rest = maker_in_found b ys l k x e t in
     first b (makes l y) (Some (maker_at b y)) (maker_in b ys l) (maker_at b y, refl) rest where
-  first : (b : ℕ) (t : Bool) (here there : Option Maker) → (m : Maker) × (here ≡ Some m) → (m : Maker) × (there ≡ Some m) → (m : Maker) × (cond t here there ≡ Some m)
-  first b true here there h r = h
-  first b false here there h r = r
+      first : (b : ℕ) (t : Bool) (here there : Option Maker) → (m : Maker) × (here ≡ Some m) → (m : Maker) × (there ≡ Some m) → (m : Maker) × (cond t here there ≡ Some m)
+      first b true here there h r = h
+      first b false here there h r = r
 
 pub maker_in_blocks : (b : ℕ) (blocks : List Block) (l : LocalNo) (m : Maker) → maker_from b blocks l ≡ Some m
     → (c : ℕ) × (k : ℕ) × (x : Placed) × (m.block ≡ b + c) × (slice_get (insts_at blocks c) k ≡ Some x) × (makes l x ≡ true) × (m.inst ≡ x.inst)
@@ -62,16 +61,16 @@ maker_in_blocks b [] l m e = cc
 maker_in_blocks b (y ∷ ys) l m e =
     ⊎_elim
     (λ (none : maker_in b y.insts l ≡ None).
-      let later : maker_from (suc b) ys l ≡ Some m = sym (ap (λ o. or_else o (maker_from (suc b) ys l)) none) ∙ e in
-      let rest = maker_in_blocks (suc b) ys l m later in
-      let step : m.block ≡ b + suc rest.0 = let r = rest.3 in omega arith in
-      (suc rest.0, rest.1, rest.2, step, rest.4, rest.5, rest.6))
+    let later : maker_from (suc b) ys l ≡ Some m = sym (ap (λ o. or_else o (maker_from (suc b) ys l)) none) ∙ e in
+    let rest = maker_in_blocks (suc b) ys l m later in
+    let step : m.block ≡ b + suc rest.0 = let r = rest.3 in omega arith in
+    (suc rest.0, rest.1, rest.2, step, rest.4, rest.5, rest.6))
     (λ (some : (n : Maker) × (maker_in b y.insts l ≡ Some n)).
-      let same : Some some.0 ≡ Some m = sym (ap (λ o. or_else o (maker_from (suc b) ys l)) some.1) ∙ e in
-      let is : some.0 ≡ m = cc in
-      let here = maker_in_list b y.insts l some.0 some.1 in
-      let block : m.block ≡ b + 0 = ap (λ (n : Maker). n.block) (sym is ∙ here.4) ∙ omega arith in
-      (zero, here.0, here.1, block, here.2, here.3, ap (λ (n : Maker). n.inst) (sym is ∙ here.4)))
+    let same : Some some.0 ≡ Some m = sym (ap (λ o. or_else o (maker_from (suc b) ys l)) some.1) ∙ e in
+    let is : some.0 ≡ m = cc in
+    let here = maker_in_list b y.insts l some.0 some.1 in
+    let block : m.block ≡ b + 0 = ap (λ (n : Maker). n.block) (sym is ∙ here.4) ∙ omega arith in
+    (zero, here.0, here.1, block, here.2, here.3, ap (λ (n : Maker). n.inst) (sym is ∙ here.4)))
     (cases_Option (maker_in b y.insts l))
 
 found_or : (o p : Option Maker) → (m : Maker) × (p ≡ Some m) → (m : Maker) × (or_else o p ≡ Some m)
@@ -94,8 +93,8 @@ no_maker f l none =
     ⊎_elim
     (λ (e : maker_of f l ≡ None). e)
     (λ (some : (m : Maker) × (maker_of f l ≡ Some m)).
-      let there = maker_in_blocks 0 f.blocks l some.0 some.1 in
-      absurd (none there.0 there.1 there.2 (record { found = there.4; gives = giver_from l there.2 there.5 }) (pointer_from l there.2 there.5)))
+    let there = maker_in_blocks 0 f.blocks l some.0 some.1 in
+    absurd (none there.0 there.1 there.2 (record { found = there.4; gives = giver_from l there.2 there.5 }) (pointer_from l there.2 there.5)))
     (cases_Option (maker_of f l))
 
 same_maker : (m : Maker) (b : ℕ) (inst : Inst) → m.block ≡ b → m.inst ≡ inst → m ≡ record { block = b; inst = inst }
@@ -116,10 +115,10 @@ giver_makes f n l b k x g p =
 pub giver_makes_none : (f : FuncState) → IsNumbered f → (l : LocalNo) (b k : ℕ) (x : Placed) → IsGiver f.blocks l b k x → makes_pointer x.inst ≡ false → maker_of f l ≡ None
 giver_makes_none f n l b k x g p =
     no_maker f l (λ c j y h t.
-      let one = n.one_giver l c j b k y x h g in
-      let same : Some y ≡ Some x = sym h.found ∙ ap (λ d. slice_get (insts_at f.blocks d) j) one.0 ∙ ap (slice_get (insts_at f.blocks b)) one.1 ∙ g.found in
-      let is : y ≡ x = cc in
-      both_ways (makes_pointer x.inst) p (ap (λ (z : Placed). makes_pointer z.inst) (sym is) ∙ t))
+    let one = n.one_giver l c j b k y x h g in
+    let same : Some y ≡ Some x = sym h.found ∙ ap (λ d. slice_get (insts_at f.blocks d) j) one.0 ∙ ap (slice_get (insts_at f.blocks b)) one.1 ∙ g.found in
+    let is : y ≡ x = cc in
+    both_ways (makes_pointer x.inst) p (ap (λ (z : Placed). makes_pointer z.inst) (sym is) ∙ t))
 
 abbrev inst_in : Option Maker → Option Inst
 inst_in o = option_map (λ m. m.inst) o
@@ -161,11 +160,11 @@ home_still f l n b k x g m =
     ⊎_elim
     (λ (p : makes_pointer x.inst ≡ false). sym (ap moving_block (giver_makes_none f n l b k x g p)))
     (λ (a : not (is_alloca x.inst) ≡ false).
-      ⊎_elim
-      (λ (t : makes_pointer x.inst ≡ true).
-        sym (ap moving_block (giver_makes f n l b k x g t) ∙ cond-true (is_alloca x.inst) None (Some b) (not-false (is_alloca x.inst) a)))
-      (λ (p : makes_pointer x.inst ≡ false). sym (ap moving_block (giver_makes_none f n l b k x g p)))
-      (cases_Bool (makes_pointer x.inst)))
+    ⊎_elim
+    (λ (t : makes_pointer x.inst ≡ true).
+    sym (ap moving_block (giver_makes f n l b k x g t) ∙ cond-true (is_alloca x.inst) None (Some b) (not-false (is_alloca x.inst) a)))
+    (λ (p : makes_pointer x.inst ≡ false). sym (ap moving_block (giver_makes_none f n l b k x g p)))
+    (cases_Bool (makes_pointer x.inst)))
     (and_cases (makes_pointer x.inst) (not (is_alloca x.inst)) m)
 
 pub home_moving : (f : FuncState) (l : LocalNo) → IsNumbered f → (b k : ℕ) (x : Placed) → IsGiver f.blocks l b k x → moves x.inst ≡ true → Some b ≡ moving_block (maker_of f l)

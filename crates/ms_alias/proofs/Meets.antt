@@ -1,6 +1,6 @@
 -- When sets of bases meet.
-use Rattle.std.proofs.Common.{◌≡◌, ◌<◌, ◌+◌, ◌⊎◌, ◌↔◌, ℕ, zero, suc, Bool, true, false, List, [], ◌∷◌, Option, Some, None, length, get_or, eqb, refl, sym, ap, ◌∙◌, subst, inl, inr, ⊎_elim, arith}
-use Rattle.std.specs.Prelude.{◌&&◌, ◌||◌, slice_get, position}
+use Rattle.std.proofs.Common.{◌≡◌, ◌⊎◌, ℕ, zero, suc, Bool, true, false, List, [], ◌∷◌, Option, Some, None, get_or, refl, sym, ap, ◌∙◌, subst, inl, inr, ⊎_elim}
+use Rattle.std.specs.Prelude.{◌&&◌, ◌||◌, slice_get}
 use Rattle.std.proofs.lemmas.Bool.{eqb-true, eq-eqb, and_parts, and_from, or_cases, or_left, or_right, false≢true}
 use Rattle.std.proofs.lemmas.Option.{slice_get-get_or}
 use Rattle.std.proofs.lemmas.List.Quantifiers.{position-Some}
@@ -13,8 +13,7 @@ use Rattle.ms_alias.specs.declared.sets.Set.{Set}
 use Rattle.ms_alias.specs.declared.sets.Set.TheVariants.{Nothing, Argument, Alloca, Object, Brought}
 use Rattle.ms_alias.specs.Bases.{Base, Alloca as AllocaBase, Argument as ArgumentBase, Object as ObjectBase, Outside, Hidden, HasBase, IsNamed}
 use Rattle.ms_alias.specs.Meeting.{MayBeOne, IsOuter, IsOuterBase}
-use Rattle.ms_alias.specs.Tables.{BasesState, share_mark, bit_of, bit_at, row_of, set_of, global_column, same_root, have_common, has_argument, has_outer, sets_meet, base_of, IsColumn, IsRow, IsSet, IsBases, HasOneBase}
-use Rattle.ms_alias.proofs.Makers.{is_number}
+use Rattle.ms_alias.specs.Tables.{BasesState, share_mark, bit_of, bit_at, row_of, set_of, global_column, same_root, have_common, has_argument, has_outer, sets_meet, base_of, IsColumn, IsRow, IsSet}
 
 -- the bases of a pointer have names
 abbrev IsPlain : Base → Type 0
@@ -218,32 +217,32 @@ pub sets_from : (t : BasesState) (f : FuncState) (p q : Root) (s u : Set) → Is
 sets_from t f p q s u hs hu e =
     ⊎_elim
     (λ (one : (have_common t s u || (has_argument t s && has_outer t u)) ≡ true).
-      ⊎_elim
-      (λ (c : have_common t s u ≡ true). let n = common_from t f p q s u hs hu c in (base_of n.0, base_of n.0, n.1, n.2, common_one n.0))
-      (λ (a : (has_argument t s && has_outer t u) ≡ true).
-        let both = and_parts (has_argument t s) (has_outer t u) a in
-        let x = argument_from t f p s hs both.0 in
-        let y = outer_from t f q u hu both.1 in
-        (ArgumentBase x.0, y.0, x.1, y.1, argument_outer x.0 y.0 (plain f q y.0 y.1) y.2))
-      (or_cases (have_common t s u) (has_argument t s && has_outer t u) one))
+    ⊎_elim
+    (λ (c : have_common t s u ≡ true). let n = common_from t f p q s u hs hu c in (base_of n.0, base_of n.0, n.1, n.2, common_one n.0))
+    (λ (a : (has_argument t s && has_outer t u) ≡ true).
+    let both = and_parts (has_argument t s) (has_outer t u) a in
+    let x = argument_from t f p s hs both.0 in
+    let y = outer_from t f q u hu both.1 in
+    (ArgumentBase x.0, y.0, x.1, y.1, argument_outer x.0 y.0 (plain f q y.0 y.1) y.2))
+    (or_cases (have_common t s u) (has_argument t s && has_outer t u) one))
     (λ (a : (has_argument t u && has_outer t s) ≡ true).
-      let both = and_parts (has_argument t u) (has_outer t s) a in
-      let x = argument_from t f q u hu both.0 in
-      let y = outer_from t f p s hs both.1 in
-      (y.0, ArgumentBase x.0, y.1, x.1, outer_argument x.0 y.0 (plain f p y.0 y.1) y.2))
+    let both = and_parts (has_argument t u) (has_outer t s) a in
+    let x = argument_from t f q u hu both.0 in
+    let y = outer_from t f p s hs both.1 in
+    (y.0, ArgumentBase x.0, y.1, x.1, outer_argument x.0 y.0 (plain f p y.0 y.1) y.2))
     (or_cases (have_common t s u || (has_argument t s && has_outer t u)) (has_argument t u && has_outer t s) e)
 
 pub sets_to : (t : BasesState) (f : FuncState) (p q : Root) (s u : Set) → IsSet t f p s → IsSet t f q u → SharePointers f p q → sets_meet t s u ≡ true
 sets_to t f p q s u hs hu h =
     ⊎_elim
     (λ (c : HaveCommon f p q).
-      or_left (have_common t s u || (has_argument t s && has_outer t u)) (has_argument t u && has_outer t s)
-      (or_left (have_common t s u) (has_argument t s && has_outer t u) (common_to t f p q s u hs hu c)))
+    or_left (have_common t s u || (has_argument t s && has_outer t u)) (has_argument t u && has_outer t s)
+    (or_left (have_common t s u) (has_argument t s && has_outer t u) (common_to t f p q s u hs hu c)))
     (⊎_elim
-      (λ (a : HasArgument f p × IsOuter f q).
-        or_left (have_common t s u || (has_argument t s && has_outer t u)) (has_argument t u && has_outer t s)
-        (or_right (have_common t s u) (has_argument t s && has_outer t u) (and_from (has_argument t s) (has_outer t u) (argument_to t f p s hs a.0) (outer_to t f q u hu a.1))))
-      (λ (a : HasArgument f q × IsOuter f p).
-        or_right (have_common t s u || (has_argument t s && has_outer t u)) (has_argument t u && has_outer t s)
-        (and_from (has_argument t u) (has_outer t s) (argument_to t f q u hu a.0) (outer_to t f p s hs a.1))))
+    (λ (a : HasArgument f p × IsOuter f q).
+    or_left (have_common t s u || (has_argument t s && has_outer t u)) (has_argument t u && has_outer t s)
+    (or_right (have_common t s u) (has_argument t s && has_outer t u) (and_from (has_argument t s) (has_outer t u) (argument_to t f p s hs a.0) (outer_to t f q u hu a.1))))
+    (λ (a : HasArgument f q × IsOuter f p).
+    or_right (have_common t s u || (has_argument t s && has_outer t u)) (has_argument t u && has_outer t s)
+    (and_from (has_argument t u) (has_outer t s) (argument_to t f q u hu a.0) (outer_to t f p s hs a.1))))
     (share_cases f p q h.0 h.1 h.2 h.3 h.4)

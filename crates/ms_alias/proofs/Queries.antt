@@ -1,7 +1,7 @@
 -- What the tables answer of an instruction is what the function says of it.
-use Rattle.std.proofs.Common.{◌≡◌, ◌⊎◌, ◌↔◌, ℕ, ℤ, pos, ◌+ℤ◌, Bool, true, false, cond, List, [], Option, Some, None, refl, sym, ap, ◌∙◌, subst, inl, inr, ⊎_elim, arith}
-use Rattle.std.specs.Prelude.{◌&&◌, ◌||◌, not, slice_get, int_lt, int_le, ◌≤ℤ◌, ◌<ℤ◌}
-use Rattle.std.proofs.lemmas.Bool.{and_parts, and_from, false≢true, both_ways, cases_Bool, not-true, not_from_false, cond-true, cond-false}
+use Rattle.std.proofs.Common.{◌≡◌, ◌↔◌, ℕ, ℤ, pos, ◌+ℤ◌, Bool, true, false, cond, List, Option, Some, None, refl, sym, ap, ◌∙◌, subst, ⊎_elim, arith}
+use Rattle.std.specs.Prelude.{◌&&◌, ◌||◌, not, int_lt, int_le, ◌≤ℤ◌, ◌<ℤ◌}
+use Rattle.std.proofs.lemmas.Bool.{and_parts, and_from, false≢true, both_ways, cases_Bool, not-true, not_from_false, cond-true}
 use Rattle.std.proofs.lemmas.Int.{ints}
 use Rattle.ms_ir.specs.declared.names.LocalNo.{LocalNo}
 use Rattle.ms_ir.specs.declared.names.InstNo.{InstNo}
@@ -10,17 +10,17 @@ use Rattle.ms_ir.specs.declared.inst.Inst.{Inst}
 use Rattle.ms_ir.specs.declared.inst.Inst.TheVariants.{Load, Store, Copy, Call}
 use Rattle.ms_ir.specs.Func.{Placed, Block, FuncState, IsAt, IsNowhere}
 use Rattle.ms_alias.specs.declared.loc.Root.{Root}
-use Rattle.ms_alias.specs.declared.loc.Root.TheVariants.{Local, Global}
+use Rattle.ms_alias.specs.declared.loc.Root.TheVariants.{Local}
 use Rattle.ms_alias.specs.declared.loc.Loc.{Loc}
 use Rattle.ms_alias.specs.declared.loc.Loc.TheVariants.{Bytes, ReadBy}
 use Rattle.ms_alias.specs.declared.origins.Origin.{Origin}
 use Rattle.ms_alias.specs.declared.sets.Set.{Set}
-use Rattle.ms_alias.specs.declared.sets.Set.TheVariants.{Nothing, Argument, Alloca, Object, Brought}
-use Rattle.ms_alias.specs.Roots.{pointer_of, HasRoot, IsTurning, IsFixed}
+use Rattle.ms_alias.specs.declared.sets.Set.TheVariants.{Alloca}
+use Rattle.ms_alias.specs.Roots.{pointer_of, HasRoot, IsFixed}
 use Rattle.ms_alias.specs.Captured.{IsCaptured}
-use Rattle.ms_alias.specs.Reaches.{Reach, Span, Called, size_of, IsReachOf, IsRead, IsWritten, IsLocRead, IsLocWritten, ReadsLoc, WritesLoc}
-use Rattle.ms_alias.specs.Meeting.{HoldsByte, Meet, MayWrite, MayRead, MustWrite}
-use Rattle.ms_alias.specs.Tables.{AliasState, same_root, set_of, is_turning, origin_of, origin_in, val_origin, bytes_at, read_loc, written_loc, read_reach, write_reach, reaches_meet, meet_in, holds_byte, must_hold, caught_at, IsReadBy, IsWrittenBy, IsReachBy, IsOrigins, IsAliasOf, IsFor}
+use Rattle.ms_alias.specs.Reaches.{Reach, Span, Called, size_of, IsReachOf, IsWritten, IsLocRead, IsLocWritten, ReadsLoc, WritesLoc}
+use Rattle.ms_alias.specs.Meeting.{HoldsByte, MayWrite, MayRead, MustWrite}
+use Rattle.ms_alias.specs.Tables.{AliasState, same_root, set_of, is_turning, origin_of, origin_in, val_origin, bytes_at, read_loc, written_loc, read_reach, write_reach, meet_in, holds_byte, must_hold, caught_at, IsReadBy, IsWrittenBy, IsReachBy, IsOrigins, IsAliasOf, IsFor}
 use Rattle.ms_alias.proofs.Makers.{not_nowhere}
 use Rattle.ms_alias.proofs.RootLemmas.{one_root, origin_told, turning_from, turning_to, read_from, read_to, written_from, written_to}
 use Rattle.ms_alias.proofs.Reaching.{reaches_from, reaches_to, root_is, root_same}
@@ -98,15 +98,15 @@ Each f n inst = (b place : ℕ) (x : Placed) → IsAt f.blocks n b place x → x
 
 pub reads_told : (f : FuncState) (a : AliasState) → IsAliasOf f a → (i : InstNo) (inst : Inst) → Found f i.0 inst → Each f i.0 inst → (r : Option Loc) → r ≡ read_loc a.origins i inst → (loc : Loc) → (r ≡ Some loc) ↔ ReadsLoc f i loc
 reads_told f a is i inst found each r e loc = (
-      λ s. (found.0, found.1, found.2, found.3, loc_read_from f a.origins i found.2.inst loc is.origins (ap (read_loc a.origins i) found.4 ∙ sym e ∙ s)),
-      λ h. e ∙ ap (read_loc a.origins i) (sym (each h.0 h.1 h.2 h.3)) ∙ loc_read_to f a.origins i h.2.inst loc is.origins h.4,
-    )
+  λ s. (found.0, found.1, found.2, found.3, loc_read_from f a.origins i found.2.inst loc is.origins (ap (read_loc a.origins i) found.4 ∙ sym e ∙ s)),
+  λ h. e ∙ ap (read_loc a.origins i) (sym (each h.0 h.1 h.2 h.3)) ∙ loc_read_to f a.origins i h.2.inst loc is.origins h.4,
+)
 
 pub writes_told : (f : FuncState) (a : AliasState) → IsAliasOf f a → (i : InstNo) (inst : Inst) → Found f i.0 inst → Each f i.0 inst → (r : Option Loc) → r ≡ written_loc a.origins inst → (loc : Loc) → (r ≡ Some loc) ↔ WritesLoc f i loc
 writes_told f a is i inst found each r e loc = (
-      λ s. (found.0, found.1, found.2, found.3, loc_written_from f a.origins found.2.inst loc is.origins (ap (written_loc a.origins) found.4 ∙ sym e ∙ s)),
-      λ h. e ∙ ap (written_loc a.origins) (sym (each h.0 h.1 h.2 h.3)) ∙ loc_written_to f a.origins h.2.inst loc is.origins h.4,
-    )
+  λ s. (found.0, found.1, found.2, found.3, loc_written_from f a.origins found.2.inst loc is.origins (ap (written_loc a.origins) found.4 ∙ sym e ∙ s)),
+  λ h. e ∙ ap (written_loc a.origins) (sym (each h.0 h.1 h.2 h.3)) ∙ loc_written_to f a.origins h.2.inst loc is.origins h.4,
+)
 
 pub reach_from : (f : FuncState) (origins : List Origin) (loc : Loc) (u : Reach) → IsOrigins f origins → IsReachBy f origins loc u → IsReachOf f loc u
 reach_from f origins (Bytes root from len) u is h = h
@@ -135,22 +135,22 @@ read_from_test f a is i loc (Some u) (Some v) hu hv e =
 pub may_write_told : (f : FuncState) (a : AliasState) → IsAliasOf f a → (i : ℕ) (loc : Loc) (ou ov : Option Reach) → ((u : Reach) → (ou ≡ Some u) ↔ IsWrittenBy f a.origins i u) → ((v : Reach) → (ov ≡ Some v) ↔ IsReachBy f a.origins loc v)
     → (r : Bool) → r ≡ meet_in a ou ov → (r ≡ true) ↔ MayWrite f i loc
 may_write_told f a is i loc ou ov hu hv r e = (
-      λ t. write_from f a is i loc ou ov hu hv (sym e ∙ t),
-      λ h.
-        let u = (hu h.4).1 (h.0, h.1, h.2, h.3, written_to f a.origins h.2.inst h.4 is.origins h.6) in
-        let v = (hv h.5).1 (reach_to f a.origins loc h.5 is.origins h.7) in
-        e ∙ ap (λ x. meet_in a x ov) u ∙ ap (meet_in a (Some h.4)) v ∙ reaches_to f a is h.4 h.5 h.8,
-    )
+  λ t. write_from f a is i loc ou ov hu hv (sym e ∙ t),
+  λ h.
+      let u = (hu h.4).1 (h.0, h.1, h.2, h.3, written_to f a.origins h.2.inst h.4 is.origins h.6) in
+      let v = (hv h.5).1 (reach_to f a.origins loc h.5 is.origins h.7) in
+      e ∙ ap (λ x. meet_in a x ov) u ∙ ap (meet_in a (Some h.4)) v ∙ reaches_to f a is h.4 h.5 h.8,
+)
 
 pub may_read_told : (f : FuncState) (a : AliasState) → IsAliasOf f a → (i : ℕ) (loc : Loc) (ou ov : Option Reach) → ((u : Reach) → (ou ≡ Some u) ↔ IsReadBy f a.origins i u) → ((v : Reach) → (ov ≡ Some v) ↔ IsReachBy f a.origins loc v)
     → (r : Bool) → r ≡ meet_in a ou ov → (r ≡ true) ↔ MayRead f i loc
 may_read_told f a is i loc ou ov hu hv r e = (
-      λ t. read_from_test f a is i loc ou ov hu hv (sym e ∙ t),
-      λ h.
-        let u = (hu h.4).1 (h.0, h.1, h.2, h.3, read_to f a.origins h.2.inst h.4 is.origins h.6) in
-        let v = (hv h.5).1 (reach_to f a.origins loc h.5 is.origins h.7) in
-        e ∙ ap (λ x. meet_in a x ov) u ∙ ap (meet_in a (Some h.4)) v ∙ reaches_to f a is h.4 h.5 h.8,
-    )
+  λ t. read_from_test f a is i loc ou ov hu hv (sym e ∙ t),
+  λ h.
+      let u = (hu h.4).1 (h.0, h.1, h.2, h.3, read_to f a.origins h.2.inst h.4 is.origins h.6) in
+      let v = (hv h.5).1 (reach_to f a.origins loc h.5 is.origins h.7) in
+      e ∙ ap (λ x. meet_in a x ov) u ∙ ap (meet_in a (Some h.4)) v ∙ reaches_to f a is h.4 h.5 h.8,
+)
 
 holds_from : (from : ℤ) (len : ℕ) (k : ℤ) → holds_byte from len k ≡ true → HoldsByte from len k
 holds_from from len k e =
@@ -158,23 +158,25 @@ holds_from from len k e =
     let p = both.0 in
     let q = both.1 in
     (le_from from k p, lt_from k (from +ℤ pos len) q) where
-  le_from : (a b : ℤ) → int_le a b ≡ true → a ≤ℤ b
-  le_from a b e = grind (arith, ints)
-  lt_from : (a b : ℤ) → int_lt a b ≡ true → a <ℤ b
-  lt_from a b e = grind (arith, ints)
+      le_from : (a b : ℤ) → int_le a b ≡ true → a ≤ℤ b
+      le_from a b e = grind (arith, ints)
+
+      lt_from : (a b : ℤ) → int_lt a b ≡ true → a <ℤ b
+      lt_from a b e = grind (arith, ints)
 
 holds_to : (from : ℤ) (len : ℕ) (k : ℤ) → HoldsByte from len k → holds_byte from len k ≡ true
 holds_to from len k h = and_from (int_le from k) (int_lt k (from +ℤ pos len)) (le_to from k h.0) (lt_to k (from +ℤ pos len) h.1) where
   le_to : (a b : ℤ) → a ≤ℤ b → int_le a b ≡ true
   le_to a b h = grind (arith, ints)
+
   lt_to : (a b : ℤ) → a <ℤ b → int_lt a b ≡ true
   lt_to a b h = grind (arith, ints)
 
 pub fixed_told : (f : FuncState) (a : AliasState) → IsAliasOf f a → (root : Root) → (not (is_turning a.turning root) ≡ true) ↔ IsFixed f root
 fixed_told f a is root = (
-      λ t turns. both_ways (is_turning a.turning root) (not-true (is_turning a.turning root) t) (turning_to f a.turning is.turning root turns),
-      λ fixed. ⊎_elim (λ (t : is_turning a.turning root ≡ true). absurd (fixed (turning_from f a.turning is.turning root t))) (λ (o : is_turning a.turning root ≡ false). not_from_false (is_turning a.turning root) o) (cases_Bool (is_turning a.turning root)),
-    )
+  λ t turns. both_ways (is_turning a.turning root) (not-true (is_turning a.turning root) t) (turning_to f a.turning is.turning root turns),
+  λ fixed. ⊎_elim (λ (t : is_turning a.turning root ≡ true). absurd (fixed (turning_from f a.turning is.turning root t))) (λ (o : is_turning a.turning root ≡ false). not_from_false (is_turning a.turning root) o) (cases_Bool (is_turning a.turning root)),
+)
 
 must_from : (f : FuncState) (a : AliasState) → IsAliasOf f a → (i : ℕ) (root : Root) (k : ℤ) (ou : Option Reach) → ((u : Reach) → (ou ≡ Some u) ↔ IsWrittenBy f a.origins i u) → must_hold a ou root k ≡ true → MustWrite f i root k
 must_from f a is i root k None hu e = absurd (false≢true e)
@@ -189,12 +191,12 @@ must_from f a is i root k (Some (Span r from len)) hu e =
 pub must_write_told : (f : FuncState) (a : AliasState) → IsAliasOf f a → (i : ℕ) (root : Root) (k : ℤ) (ou : Option Reach) → ((u : Reach) → (ou ≡ Some u) ↔ IsWrittenBy f a.origins i u)
     → (r : Bool) → r ≡ must_hold a ou root k → (r ≡ true) ↔ MustWrite f i root k
 must_write_told f a is i root k ou hu r e = (
-      λ t. must_from f a is i root k ou hu (sym e ∙ t),
-      λ h.
-        let u = (hu (Span root h.5 h.6)).1 (h.0, h.1, h.2, h.3, written_to f a.origins h.2.inst (Span root h.5 h.6) is.origins h.7) in
-        e ∙ ap (λ x. must_hold a x root k) u ∙ and_from (same_root root root && not (is_turning a.turning root)) (holds_byte h.5 h.6 k)
-          (and_from (same_root root root) (not (is_turning a.turning root)) (root_same root) ((fixed_told f a is root).1 h.4)) (holds_to h.5 h.6 k h.8),
-    )
+  λ t. must_from f a is i root k ou hu (sym e ∙ t),
+  λ h.
+      let u = (hu (Span root h.5 h.6)).1 (h.0, h.1, h.2, h.3, written_to f a.origins h.2.inst (Span root h.5 h.6) is.origins h.7) in
+      e ∙ ap (λ x. must_hold a x root k) u ∙ and_from (same_root root root && not (is_turning a.turning root)) (holds_byte h.5 h.6 k)
+      (and_from (same_root root root) (not (is_turning a.turning root)) (root_same root) ((fixed_told f a is root).1 h.4)) (holds_to h.5 h.6 k h.8),
+)
 
 caught_in : (f : FuncState) (a : AliasState) → IsAliasOf f a → (l : LocalNo) (s : Set) → IsFor a.bases f l s → caught_at a.captured s ≡ true → IsCaptured f l
 caught_in f a is l (Alloca c) h e =
@@ -206,6 +208,6 @@ caught_in f a is l s h e = absurd (false≢true e)
 
 pub captured_told : (f : FuncState) (a : AliasState) → IsAliasOf f a → (l : LocalNo) (r : Bool) → r ≡ caught_at a.captured (set_of a.bases (Local l)) → (r ≡ true) ↔ IsCaptured f l
 captured_told f a is l r e = (
-      λ t. caught_in f a is l (set_of a.bases (Local l)) (is.room.sets l) (sym e ∙ t),
-      λ h. let there = is.captured.complete l h in e ∙ ap (caught_at a.captured) there.1 ∙ there.2,
-    )
+  λ t. caught_in f a is l (set_of a.bases (Local l)) (is.room.sets l) (sym e ∙ t),
+  λ h. let there = is.captured.complete l h in e ∙ ap (caught_at a.captured) there.1 ∙ there.2,
+)

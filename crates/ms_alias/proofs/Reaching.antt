@@ -1,8 +1,8 @@
 -- When reaches meet, by the tables and by their meaning.
-use Rattle.std.proofs.Common.{◌≡◌, ◌<◌, ◌≤◌, ◌+◌, ◌⊎◌, ◌↔◌, ℕ, zero, suc, ℤ, pos, ◌+ℤ◌, Bool, true, false, cond, ltb, List, [], ◌∷◌, Option, Some, None, length, get_or, eqb, refl, sym, ap, ◌∙◌, subst, inl, inr, ⊎_elim, arith}
-use Rattle.std.specs.Prelude.{◌&&◌, ◌||◌, not, slice_get, position, Contains, nat_lt, int_lt, ◌≤ℤ◌, ◌<ℤ◌}
+use Rattle.std.proofs.Common.{◌≡◌, ◌<◌, ◌⊎◌, ℕ, zero, suc, ℤ, pos, ◌+ℤ◌, Bool, true, false, List, [], ◌∷◌, Option, Some, None, get_or, refl, sym, ap, ◌∙◌, subst, inl, inr, ⊎_elim, arith}
+use Rattle.std.specs.Prelude.{◌&&◌, ◌||◌, not, Contains, nat_lt, int_lt, ◌≤ℤ◌, ◌<ℤ◌}
 use Rattle.std.specs.List.{list_any}
-use Rattle.std.proofs.lemmas.Bool.{eqb-true, eq-eqb, and_parts, and_from, and_cases, or_cases, or_left, or_right, false≢true, both_ways, cases_Bool, ltb-true, lt-ltb, not-true, not-false, not_from_false, cond-true, cond-false}
+use Rattle.std.proofs.lemmas.Bool.{eqb-true, eq-eqb, and_parts, and_from, or_cases, or_left, or_right, false≢true, both_ways, cases_Bool, ltb-true, lt-ltb, not-true, not_from_false, cond-true, cond-false}
 use Rattle.std.proofs.lemmas.Int.{ints, by_lt_z}
 use Rattle.std.proofs.lemmas.List.Folds.{list_any_at}
 use Rattle.ms_ir.specs.declared.names.LocalNo.{LocalNo}
@@ -14,14 +14,14 @@ use Rattle.ms_alias.specs.declared.loc.Root.{Root}
 use Rattle.ms_alias.specs.declared.loc.Root.TheVariants.{Local, Global}
 use Rattle.ms_alias.specs.declared.sets.Set.{Set}
 use Rattle.ms_alias.specs.declared.sets.Set.TheVariants.{Nothing, Argument, Alloca, Object, Brought}
-use Rattle.ms_alias.specs.Roots.{pointer_of, IsTurning, IsFixed}
+use Rattle.ms_alias.specs.Roots.{pointer_of, IsFixed}
 use Rattle.ms_alias.specs.Bases.{Base, Alloca as AllocaBase, Argument as ArgumentBase, Object as ObjectBase, Outside, Hidden, HasBase, HasValBase, IsNamed, IsBrought}
 use Rattle.ms_alias.specs.Captured.{IsCaptured}
 use Rattle.ms_alias.specs.Reaches.{Reach, Span, Called, IsKnown, IsReached}
-use Rattle.ms_alias.specs.Meeting.{MayBeOne, IsOuter, IsOuterBase, HoldsByte, HaveOneRoot, ShareByte, HasLength, ShareBase, Meet}
-use Rattle.ms_alias.specs.Tables.{AliasState, BasesState, same_root, share_mark, bit_of, row_of, set_of, have_common, has_argument, has_outer, sets_meet, is_caught, is_known, set_of_option, val_set, args_meet, call_meets, call_meets_args, are_known, calls_meet, ranges_meet, is_turning, spans_meet, reaches_meet, IsColumn, IsSet, IsBases, IsCaptures, IsAliasOf, HasOneBase, base_of}
+use Rattle.ms_alias.specs.Meeting.{MayBeOne, IsOuterBase, HoldsByte, ShareBase, Meet}
+use Rattle.ms_alias.specs.Tables.{AliasState, BasesState, same_root, row_of, set_of, have_common, has_argument, has_outer, sets_meet, is_caught, is_known, set_of_option, val_set, args_meet, call_meets, call_meets_args, are_known, calls_meet, ranges_meet, is_turning, spans_meet, reaches_meet, IsSet, IsBases, IsCaptures, IsAliasOf, base_of}
 use Rattle.ms_alias.proofs.Makers.{is_number}
-use Rattle.ms_alias.proofs.Meets.{plain, SharePointers, sets_from, sets_to, outer_from, outer_to, shared_from, shared_to}
+use Rattle.ms_alias.proofs.Meets.{plain, sets_from, sets_to, outer_from, outer_to, shared_from, shared_to}
 use Rattle.ms_alias.proofs.RootLemmas.{turning_from, turning_to}
 
 no_member : {A : Type 0} (x : A) → Contains [] x → ⊥
@@ -65,11 +65,11 @@ nothing_meets : (t : BasesState) (s : Set) → sets_meet t Nothing s ≡ true �
 nothing_meets t s e =
     ⊎_elim
     (λ (one : (have_common t Nothing s || (has_argument t Nothing && has_outer t s)) ≡ true).
-      ⊎_elim (λ (c : have_common t Nothing s ≡ true). no_common t s c) (λ (a : (has_argument t Nothing && has_outer t s) ≡ true). false≢true (and_parts (has_argument t Nothing) (has_outer t s) a).0) (or_cases (have_common t Nothing s) (has_argument t Nothing && has_outer t s) one))
+    ⊎_elim (λ (c : have_common t Nothing s ≡ true). no_common t s c) (λ (a : (has_argument t Nothing && has_outer t s) ≡ true). false≢true (and_parts (has_argument t Nothing) (has_outer t s) a).0) (or_cases (have_common t Nothing s) (has_argument t Nothing && has_outer t s) one))
     (λ (a : (has_argument t s && has_outer t Nothing) ≡ true). false≢true (and_parts (has_argument t s) (has_outer t Nothing) a).1)
     (or_cases (have_common t Nothing s || (has_argument t Nothing && has_outer t s)) (has_argument t s && has_outer t Nothing) e) where
-  no_common : (t : BasesState) (s : Set) → have_common t Nothing s ≡ true → ⊥
-  no_common t s c = false≢true c
+      no_common : (t : BasesState) (s : Set) → have_common t Nothing s ≡ true → ⊥
+      no_common t s c = false≢true c
 
 -- a value's bases and those of a pointer
 abbrev ShareVal : FuncState → Val → Root → Type 0
@@ -181,24 +181,24 @@ call_from : (t : BasesState) (f : FuncState) (captured : List Bool) → IsBases 
 call_from t f captured is k args other q s hs e =
     ⊎_elim
     (λ (one : args_meet t s args ≡ true).
-      let a = any_from (λ (x : Arg). sets_meet t (val_set t x.val) s) args one in
-      let h = val_from t f is a.0.val q s hs a.2 in
-      (h.0, h.1, inl (a.0, a.1, h.2), h.3, h.4))
+    let a = any_from (λ (x : Arg). sets_meet t (val_set t x.val) s) args one in
+    let h = val_from t f is a.0.val q s hs a.2 in
+    (h.0, h.1, inl (a.0, a.1, h.2), h.3, h.4))
     (λ (two : (other && is_known t captured s) ≡ true).
-      let both = and_parts other (is_known t captured s) two in
-      let h = known_from t f captured k q s hs both.1 in
-      (h.0, h.1, inr (both.0, h.2), h.3, h.4))
+    let both = and_parts other (is_known t captured s) two in
+    let h = known_from t f captured k q s hs both.1 in
+    (h.0, h.1, inr (both.0, h.2), h.3, h.4))
     (or_cases (args_meet t s args) (other && is_known t captured s) e)
 
 call_to : (t : BasesState) (f : FuncState) (captured : List Bool) → IsBases t f → IsCaptures t f captured → (args : List Arg) (other : Bool) (q : Root) (s : Set) → IsSet t f q s → CallShares f args other q → call_meets t captured args other s ≡ true
 call_to t f captured is k args other q s hs h =
     ⊎_elim
     (λ (a : (a : Arg) × Contains args a × HasValBase f a.val h.0).
-      or_left (args_meet t s args) (other && is_known t captured s)
-      (any_to (λ (x : Arg). sets_meet t (val_set t x.val) s) args a.0 a.1 (val_to t f is a.0.val q s hs (h.0, h.1, a.2, h.3, h.4))))
+    or_left (args_meet t s args) (other && is_known t captured s)
+    (any_to (λ (x : Arg). sets_meet t (val_set t x.val) s) args a.0 a.1 (val_to t f is a.0.val q s hs (h.0, h.1, a.2, h.3, h.4))))
     (λ (o : (other ≡ true) × IsKnown f h.0).
-      or_right (args_meet t s args) (other && is_known t captured s)
-      (and_from other (is_known t captured s) o.0 (known_to t f captured k q s hs (h.0, h.1, o.1, h.3, h.4))))
+    or_right (args_meet t s args) (other && is_known t captured s)
+    (and_from other (is_known t captured s) o.0 (known_to t f captured k q s hs (h.0, h.1, o.1, h.3, h.4))))
     h.2
 
 -- the same against a value
@@ -209,23 +209,24 @@ call_nothing : (t : BasesState) (captured : List Bool) (args : List Arg) (other 
 call_nothing t captured args other e =
     ⊎_elim
     (λ (one : args_meet t Nothing args ≡ true).
-      let a = any_from (λ (x : Arg). sets_meet t (val_set t x.val) Nothing) args one in
-      meets_nothing t (val_set t a.0.val) a.2)
+    let a = any_from (λ (x : Arg). sets_meet t (val_set t x.val) Nothing) args one in
+    meets_nothing t (val_set t a.0.val) a.2)
     (λ (two : (other && is_known t captured Nothing) ≡ true). false≢true (and_parts other (is_known t captured Nothing) two).1)
     (or_cases (args_meet t Nothing args) (other && is_known t captured Nothing) e) where
-  common_nothing : (t : BasesState) (s : Set) → have_common t s Nothing ≡ true → ⊥
-  common_nothing t Nothing e = false≢true e
-  common_nothing t Argument e = false≢true e
-  common_nothing t (Alloca c) e = false≢true e
-  common_nothing t (Object g) e = false≢true e
-  common_nothing t (Brought l) e = false≢true e
-  meets_nothing : (t : BasesState) (s : Set) → sets_meet t s Nothing ≡ true → ⊥
-  meets_nothing t s e =
-      ⊎_elim
-      (λ (one : (have_common t s Nothing || (has_argument t s && has_outer t Nothing)) ≡ true).
-        ⊎_elim (common_nothing t s) (λ (a : (has_argument t s && has_outer t Nothing) ≡ true). false≢true (and_parts (has_argument t s) (has_outer t Nothing) a).1) (or_cases (have_common t s Nothing) (has_argument t s && has_outer t Nothing) one))
-      (λ (a : (has_argument t Nothing && has_outer t s) ≡ true). false≢true (and_parts (has_argument t Nothing) (has_outer t s) a).0)
-      (or_cases (have_common t s Nothing || (has_argument t s && has_outer t Nothing)) (has_argument t Nothing && has_outer t s) e)
+      common_nothing : (t : BasesState) (s : Set) → have_common t s Nothing ≡ true → ⊥
+      common_nothing t Nothing e = false≢true e
+      common_nothing t Argument e = false≢true e
+      common_nothing t (Alloca c) e = false≢true e
+      common_nothing t (Object g) e = false≢true e
+      common_nothing t (Brought l) e = false≢true e
+
+      meets_nothing : (t : BasesState) (s : Set) → sets_meet t s Nothing ≡ true → ⊥
+      meets_nothing t s e =
+          ⊎_elim
+          (λ (one : (have_common t s Nothing || (has_argument t s && has_outer t Nothing)) ≡ true).
+          ⊎_elim (common_nothing t s) (λ (a : (has_argument t s && has_outer t Nothing) ≡ true). false≢true (and_parts (has_argument t s) (has_outer t Nothing) a).1) (or_cases (have_common t s Nothing) (has_argument t s && has_outer t Nothing) one))
+          (λ (a : (has_argument t Nothing && has_outer t s) ≡ true). false≢true (and_parts (has_argument t Nothing) (has_outer t s) a).0)
+          (or_cases (have_common t s Nothing || (has_argument t s && has_outer t Nothing)) (has_argument t Nothing && has_outer t s) e)
 
 call_val_in : (t : BasesState) (f : FuncState) (captured : List Bool) → IsBases t f → IsCaptures t f captured → (args : List Arg) (other : Bool) (v : Val) (o : Option Root) → pointer_of v ≡ o → call_meets t captured args other (set_of_option t o) ≡ true → CallSharesVal f args other v
 call_val_in t f captured is k args other v None p e = absurd (call_nothing t captured args other e)
@@ -250,21 +251,21 @@ calls_from : (t : BasesState) (f : FuncState) (captured : List Bool) → IsBases
 calls_from t f captured is k args other hidden args_2 other_2 hidden_2 e =
     ⊎_elim
     (λ (one : (call_meets_args t captured args_2 other_2 args || (other && (other_2 || are_known t captured args_2))) ≡ true).
-      ⊎_elim
-      (λ (x : call_meets_args t captured args_2 other_2 args ≡ true).
-        let a = any_from (λ (y : Arg). call_meets t captured args_2 other_2 (val_set t y.val)) args x in
-        let h = call_val_from t f captured is k args_2 other_2 a.0.val a.2 in
-        (h.1, h.0, inl (a.0, a.1, h.3), reached_by_call f args_2 other_2 hidden_2 h.0 h.2, swap_one h.0 h.1 h.4))
-      (λ (x : (other && (other_2 || are_known t captured args_2)) ≡ true).
-        let both = and_parts other (other_2 || are_known t captured args_2) x in
-        ⊎_elim
-        (λ (o : other_2 ≡ true). (Outside, Outside, inr (inl (both.0, tt)), inr (inl (o, tt)), tt))
-        (λ (y : are_known t captured args_2 ≡ true).
-          let a = any_from (λ (z : Arg). is_known t captured (val_set t z.val)) args_2 y in
-          let h = known_val_from t f captured is k a.0.val a.2 in
-          (h.0, h.1, inr (inl (both.0, h.2)), inl (a.0, a.1, h.3), h.4))
-        (or_cases other_2 (are_known t captured args_2) both.1))
-      (or_cases (call_meets_args t captured args_2 other_2 args) (other && (other_2 || are_known t captured args_2)) one))
+    ⊎_elim
+    (λ (x : call_meets_args t captured args_2 other_2 args ≡ true).
+    let a = any_from (λ (y : Arg). call_meets t captured args_2 other_2 (val_set t y.val)) args x in
+    let h = call_val_from t f captured is k args_2 other_2 a.0.val a.2 in
+    (h.1, h.0, inl (a.0, a.1, h.3), reached_by_call f args_2 other_2 hidden_2 h.0 h.2, swap_one h.0 h.1 h.4))
+    (λ (x : (other && (other_2 || are_known t captured args_2)) ≡ true).
+    let both = and_parts other (other_2 || are_known t captured args_2) x in
+    ⊎_elim
+    (λ (o : other_2 ≡ true). (Outside, Outside, inr (inl (both.0, tt)), inr (inl (o, tt)), tt))
+    (λ (y : are_known t captured args_2 ≡ true).
+    let a = any_from (λ (z : Arg). is_known t captured (val_set t z.val)) args_2 y in
+    let h = known_val_from t f captured is k a.0.val a.2 in
+    (h.0, h.1, inr (inl (both.0, h.2)), inl (a.0, a.1, h.3), h.4))
+    (or_cases other_2 (are_known t captured args_2) both.1))
+    (or_cases (call_meets_args t captured args_2 other_2 args) (other && (other_2 || are_known t captured args_2)) one))
     (λ (x : (hidden && hidden_2) ≡ true). let both = and_parts hidden hidden_2 x in (Hidden, Hidden, inr (inr (both.0, refl)), inr (inr (both.1, refl)), tt))
     (or_cases (call_meets_args t captured args_2 other_2 args || (other && (other_2 || are_known t captured args_2))) (hidden && hidden_2) e)
 
@@ -277,20 +278,20 @@ calls_one : (t : BasesState) (f : FuncState) (captured : List Bool) → IsBases 
 calls_one t f captured is k args other hidden args_2 other_2 hidden_2 b c (inl a) (inl d) one =
     or_left (call_meets_args t captured args_2 other_2 args || (other && (other_2 || are_known t captured args_2))) (hidden && hidden_2)
     (or_left (call_meets_args t captured args_2 other_2 args) (other && (other_2 || are_known t captured args_2))
-      (any_to (λ (y : Arg). call_meets t captured args_2 other_2 (val_set t y.val)) args a.0 a.1 (call_val_to t f captured is k args_2 other_2 a.0.val (c, b, inl d, a.2, swap_one b c one))))
+    (any_to (λ (y : Arg). call_meets t captured args_2 other_2 (val_set t y.val)) args a.0 a.1 (call_val_to t f captured is k args_2 other_2 a.0.val (c, b, inl d, a.2, swap_one b c one))))
 calls_one t f captured is k args other hidden args_2 other_2 hidden_2 b c (inl a) (inr (inl d)) one =
     or_left (call_meets_args t captured args_2 other_2 args || (other && (other_2 || are_known t captured args_2))) (hidden && hidden_2)
     (or_left (call_meets_args t captured args_2 other_2 args) (other && (other_2 || are_known t captured args_2))
-      (any_to (λ (y : Arg). call_meets t captured args_2 other_2 (val_set t y.val)) args a.0 a.1 (call_val_to t f captured is k args_2 other_2 a.0.val (c, b, inr d, a.2, swap_one b c one))))
+    (any_to (λ (y : Arg). call_meets t captured args_2 other_2 (val_set t y.val)) args a.0 a.1 (call_val_to t f captured is k args_2 other_2 a.0.val (c, b, inr d, a.2, swap_one b c one))))
 calls_one t f captured is k args other hidden args_2 other_2 hidden_2 b c (inr (inl o)) (inl d) one =
     or_left (call_meets_args t captured args_2 other_2 args || (other && (other_2 || are_known t captured args_2))) (hidden && hidden_2)
     (or_right (call_meets_args t captured args_2 other_2 args) (other && (other_2 || are_known t captured args_2))
-      (and_from other (other_2 || are_known t captured args_2) o.0
-        (or_right other_2 (are_known t captured args_2) (any_to (λ (z : Arg). is_known t captured (val_set t z.val)) args_2 d.0 d.1 (known_val_to t f captured is k d.0.val (b, c, o.1, d.2, one))))))
+    (and_from other (other_2 || are_known t captured args_2) o.0
+    (or_right other_2 (are_known t captured args_2) (any_to (λ (z : Arg). is_known t captured (val_set t z.val)) args_2 d.0 d.1 (known_val_to t f captured is k d.0.val (b, c, o.1, d.2, one))))))
 calls_one t f captured is k args other hidden args_2 other_2 hidden_2 b c (inr (inl o)) (inr (inl d)) one =
     or_left (call_meets_args t captured args_2 other_2 args || (other && (other_2 || are_known t captured args_2))) (hidden && hidden_2)
     (or_right (call_meets_args t captured args_2 other_2 args) (other && (other_2 || are_known t captured args_2))
-      (and_from other (other_2 || are_known t captured args_2) o.0 (or_left other_2 (are_known t captured args_2) d.0)))
+    (and_from other (other_2 || are_known t captured args_2) o.0 (or_left other_2 (are_known t captured args_2) d.0)))
 calls_one t f captured is k args other hidden args_2 other_2 hidden_2 b c (inr (inr h)) (inr (inr d)) one =
     or_right (call_meets_args t captured args_2 other_2 args || (other && (other_2 || are_known t captured args_2))) (hidden && hidden_2) (and_from hidden hidden_2 h.0 d.0)
 calls_one t f captured is k args other hidden args_2 other_2 hidden_2 b c (inr (inr h)) (inl a) one =
@@ -382,11 +383,11 @@ spans_from : (f : FuncState) (a : AliasState) → IsAliasOf f a → (r s : Root)
 spans_from f a is r s from at len size e =
     ⊎_elim
     (λ (one : one_place a r s ≡ true).
-      let test : ranges_meet from len at size ≡ true = sym (cond-true (one_place a r s) (ranges_meet from len at size) (nat_lt 0 len && nat_lt 0 size && sets_meet a.bases (set_of a.bases r) (set_of a.bases s)) one) ∙ e in
-      inl (one_place_from f a is r s one, ranges_from from at len size test))
+    let test : ranges_meet from len at size ≡ true = sym (cond-true (one_place a r s) (ranges_meet from len at size) (nat_lt 0 len && nat_lt 0 size && sets_meet a.bases (set_of a.bases r) (set_of a.bases s)) one) ∙ e in
+    inl (one_place_from f a is r s one, ranges_from from at len size test))
     (λ (two : one_place a r s ≡ false).
-      let test = longs_from len size (sets_meet a.bases (set_of a.bases r) (set_of a.bases s)) (sym (cond-false (one_place a r s) (ranges_meet from len at size) (nat_lt 0 len && nat_lt 0 size && sets_meet a.bases (set_of a.bases r) (set_of a.bases s)) two) ∙ e) in
-      inr ((λ (h : (r ≡ s) × IsFixed f r). both_ways (one_place a r s) two (one_place_to f a is r s h.0 h.1)), test.0, test.1, sets_from a.bases f r s (set_of a.bases r) (set_of a.bases s) (set_told a.bases f is.bases r) (set_told a.bases f is.bases s) test.2))
+    let test = longs_from len size (sets_meet a.bases (set_of a.bases r) (set_of a.bases s)) (sym (cond-false (one_place a r s) (ranges_meet from len at size) (nat_lt 0 len && nat_lt 0 size && sets_meet a.bases (set_of a.bases r) (set_of a.bases s)) two) ∙ e) in
+    inr ((λ (h : (r ≡ s) × IsFixed f r). both_ways (one_place a r s) two (one_place_to f a is r s h.0 h.1)), test.0, test.1, sets_from a.bases f r s (set_of a.bases r) (set_of a.bases s) (set_told a.bases f is.bases r) (set_told a.bases f is.bases s) test.2))
     (cases_Bool (one_place a r s))
 
 spans_to : (f : FuncState) (a : AliasState) → IsAliasOf f a → (r s : Root) (from at : ℤ) (len size : ℕ) → Meet f (Span r from len) (Span s at size) → spans_meet a r from len s at size ≡ true

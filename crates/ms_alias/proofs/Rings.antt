@@ -1,13 +1,11 @@
 -- Pointers whose getelementptrs lead back to themselves.
-use Rattle.std.proofs.Common.{◌≡◌, ◌≢◌, ◌<◌, ◌≤◌, ◌⊎◌, ◌↔◌, ℕ, zero, suc, ℤ, pos, ◌+ℤ◌, Bool, true, false, cond, ltb, List, Option, Some, None, length, get_or, set, refl, sym, ap, ◌∙◌, subst, inl, inr, ⊎_elim, get_or-set_other, get_or-set_same, arith}
+use Rattle.std.proofs.Common.{◌≡◌, ◌≢◌, ◌<◌, ◌≤◌, ◌⊎◌, ℕ, zero, suc, Bool, true, false, cond, List, Option, Some, None, length, get_or, set, refl, sym, ap, ◌∙◌, subst, inl, inr, ⊎_elim, get_or-set_other, get_or-set_same}
 use Rattle.std.proofs.Math.ListN.{replicate}
-use Rattle.std.specs.Prelude.{nat_lt}
-use Rattle.std.proofs.lemmas.Bool.{both_ways, cases_eq, cases_lt, lt-ltb, le-ltb, cases_Bool, ltb-true, ltb-false}
-use Rattle.ms_ir.specs.declared.names.LocalNo.{LocalNo}
+use Rattle.std.proofs.lemmas.Bool.{both_ways, cases_eq, cases_lt, lt-ltb, le-ltb}
 use Rattle.ms_ir.specs.Func.{FuncState}
 use Rattle.ms_alias.specs.declared.loc.Root.{Root}
 use Rattle.ms_alias.specs.declared.loc.Root.TheVariants.{Local, Global}
-use Rattle.ms_alias.specs.Roots.{Step, step_of, step_by_maker, maker_of, LeadsBack, IsRing}
+use Rattle.ms_alias.specs.Roots.{Step, step_of, step_by_maker, LeadsBack, IsRing}
 use Rattle.ms_alias.specs.Building.{IsBeyond, next_local, local_below}
 
 -- the local of a number
@@ -41,9 +39,9 @@ next_step f limit l m (Some s) e = within s s.base refl e where
   within s (Local k) is e =
       ⊎_elim
       (λ (lt : k.0 < limit).
-        let same : Some k.0 ≡ Some m = sym (ap (λ b. cond b (Some k.0) None) (lt-ltb k.0 limit lt)) ∙ e in
-        let one : k.0 ≡ m = cc in
-        (s, refl, is ∙ ap local one, subst (λ n. n < limit) one lt))
+      let same : Some k.0 ≡ Some m = sym (ap (λ b. cond b (Some k.0) None) (lt-ltb k.0 limit lt)) ∙ e in
+      let one : k.0 ≡ m = cc in
+      (s, refl, is ∙ ap local one, subst (λ n. n < limit) one lt))
       (λ (ge : limit ≤ k.0). let none : None ≡ Some m = sym (ap (λ b. cond b (Some k.0) None) (le-ltb k.0 limit ge)) ∙ e in cc)
       (cases_lt k.0 limit)
 
@@ -84,17 +82,19 @@ trail_more f limit l at next marks t e ne lt =
       unmarked = (let other : l ≢ next = λ h. ne (sym h) in get_or-set_other marks next l true false other ∙ t.unmarked);
       closed = λ x h. ⊎_elim (λ (is : x ≡ next). inl is) (λ (other : x ≡ next → ⊥). inr (old x (stays x other h))) (cases_eq x next);
     } where
-  later : (y : ℕ) → get_or marks y false ≡ true → get_or (set marks next true) y false ≡ true
-  later y m = ⊎_elim (λ (is : y ≡ next). ap (λ k. get_or (set marks next true) k false) is ∙ get_or-set_same marks next true false lt) (λ (other : y ≡ next → ⊥). get_or-set_other marks next y true false other ∙ m) (cases_eq y next)
-  stays : (x : ℕ) → (x ≡ next → ⊥) → (x ≡ l) ⊎ (get_or (set marks next true) x false ≡ true) → (x ≡ l) ⊎ (get_or marks x false ≡ true)
-  stays x other (inl is) = inl is
-  stays x other (inr m) = inr (sym (get_or-set_other marks next x true false other) ∙ m)
-  old : (x : ℕ) → (x ≡ l) ⊎ (get_or marks x false ≡ true) → (y : ℕ) × (next_in f limit x ≡ Some y) × (get_or (set marks next true) y false ≡ true)
-  old x h =
-      ⊎_elim
-      (λ (is : x ≡ at). (next, ap (next_in f limit) is ∙ e, get_or-set_same marks next true false lt))
-      (λ (r : (y : ℕ) × (next_in f limit x ≡ Some y) × (get_or marks y false ≡ true)). (r.0, r.1, later r.0 r.2))
-      (t.closed x h)
+      later : (y : ℕ) → get_or marks y false ≡ true → get_or (set marks next true) y false ≡ true
+      later y m = ⊎_elim (λ (is : y ≡ next). ap (λ k. get_or (set marks next true) k false) is ∙ get_or-set_same marks next true false lt) (λ (other : y ≡ next → ⊥). get_or-set_other marks next y true false other ∙ m) (cases_eq y next)
+
+      stays : (x : ℕ) → (x ≡ next → ⊥) → (x ≡ l) ⊎ (get_or (set marks next true) x false ≡ true) → (x ≡ l) ⊎ (get_or marks x false ≡ true)
+      stays x other (inl is) = inl is
+      stays x other (inr m) = inr (sym (get_or-set_other marks next x true false other) ∙ m)
+
+      old : (x : ℕ) → (x ≡ l) ⊎ (get_or marks x false ≡ true) → (y : ℕ) × (next_in f limit x ≡ Some y) × (get_or (set marks next true) y false ≡ true)
+      old x h =
+          ⊎_elim
+          (λ (is : x ≡ at). (next, ap (next_in f limit) is ∙ e, get_or-set_same marks next true false lt))
+          (λ (r : (y : ℕ) × (next_in f limit x ≡ Some y) × (get_or marks y false ≡ true)). (r.0, r.1, later r.0 r.2))
+          (t.closed x h)
 
 abbrev root_number : Root → ℕ
 root_number (Local k) = k.0
@@ -122,31 +122,33 @@ out_of_met f l marks no_mark ring (inr none) = let h = ring.1 in absurd (let bot
 pub ends_without : (f : FuncState) (limit l at : ℕ) (marks : List Bool) → IsBeyond f limit → IsTrail f limit l at marks → next_in f limit at ≡ None → IsRing f (local l) → ⊥
 ends_without f limit l at marks beyond t e ring =
     no_ring f (IsMet f marks) (local l) closed (out_of_met f l marks t.unmarked ring) ring where
-  from_local : (x : ℕ) (s : Step) → (x ≡ l) ⊎ (get_or marks x false ≡ true) → step_of f (local x) ≡ Some s → IsMet f marks s.base
-  from_local x s h is =
-      ⊎_elim
-      (λ (here : x ≡ at). inr (no_next f limit beyond (step_of f (local x)) (ap (next_in f limit) here ∙ e) s is))
-      (λ (r : (y : ℕ) × (next_in f limit x ≡ Some y) × (get_or marks y false ≡ true)). met_next f limit x r.0 marks s r.1 r.2 is)
-      (t.closed x h)
-  closed : (q : Root) (s : Step) → (q ≡ local l) ⊎ IsMet f marks q → step_of f q ≡ Some s → IsMet f marks s.base
-  closed q s (inl is) e' = from_local l s (inl refl) (sym (ap (step_of f) is) ∙ e')
-  closed q s (inr (inl h)) e' = from_local h.0 s (inr h.2) (sym (ap (step_of f) h.1) ∙ e')
-  closed q s (inr (inr none)) e' = absurd (let both : None ≡ Some s = sym none ∙ e' in cc)
+      from_local : (x : ℕ) (s : Step) → (x ≡ l) ⊎ (get_or marks x false ≡ true) → step_of f (local x) ≡ Some s → IsMet f marks s.base
+      from_local x s h is =
+          ⊎_elim
+          (λ (here : x ≡ at). inr (no_next f limit beyond (step_of f (local x)) (ap (next_in f limit) here ∙ e) s is))
+          (λ (r : (y : ℕ) × (next_in f limit x ≡ Some y) × (get_or marks y false ≡ true)). met_next f limit x r.0 marks s r.1 r.2 is)
+          (t.closed x h)
+
+      closed : (q : Root) (s : Step) → (q ≡ local l) ⊎ IsMet f marks q → step_of f q ≡ Some s → IsMet f marks s.base
+      closed q s (inl is) e' = from_local l s (inl refl) (sym (ap (step_of f) is) ∙ e')
+      closed q s (inr (inl h)) e' = from_local h.0 s (inr h.2) (sym (ap (step_of f) h.1) ∙ e')
+      closed q s (inr (inr none)) e' = absurd (let both : None ≡ Some s = sym none ∙ e' in cc)
 
 -- the walk came to a local that it met before, and not to its start
 pub ends_met : (f : FuncState) (limit l at next : ℕ) (marks : List Bool) → IsTrail f limit l at marks → next_in f limit at ≡ Some next → get_or marks next false ≡ true → IsRing f (local l) → ⊥
 ends_met f limit l at next marks t e m ring =
     no_ring f (IsMet f marks) (local l) closed (out_of_met f l marks t.unmarked ring) ring where
-  from_local : (x : ℕ) (s : Step) → (x ≡ l) ⊎ (get_or marks x false ≡ true) → step_of f (local x) ≡ Some s → IsMet f marks s.base
-  from_local x s h is =
-      ⊎_elim
-      (λ (here : x ≡ at). met_next f limit x next marks s (ap (next_in f limit) here ∙ e) m is)
-      (λ (r : (y : ℕ) × (next_in f limit x ≡ Some y) × (get_or marks y false ≡ true)). met_next f limit x r.0 marks s r.1 r.2 is)
-      (t.closed x h)
-  closed : (q : Root) (s : Step) → (q ≡ local l) ⊎ IsMet f marks q → step_of f q ≡ Some s → IsMet f marks s.base
-  closed q s (inl is) e' = from_local l s (inl refl) (sym (ap (step_of f) is) ∙ e')
-  closed q s (inr (inl h)) e' = from_local h.0 s (inr h.2) (sym (ap (step_of f) h.1) ∙ e')
-  closed q s (inr (inr none)) e' = absurd (let both : None ≡ Some s = sym none ∙ e' in cc)
+      from_local : (x : ℕ) (s : Step) → (x ≡ l) ⊎ (get_or marks x false ≡ true) → step_of f (local x) ≡ Some s → IsMet f marks s.base
+      from_local x s h is =
+          ⊎_elim
+          (λ (here : x ≡ at). met_next f limit x next marks s (ap (next_in f limit) here ∙ e) m is)
+          (λ (r : (y : ℕ) × (next_in f limit x ≡ Some y) × (get_or marks y false ≡ true)). met_next f limit x r.0 marks s r.1 r.2 is)
+          (t.closed x h)
+
+      closed : (q : Root) (s : Step) → (q ≡ local l) ⊎ IsMet f marks q → step_of f q ≡ Some s → IsMet f marks s.base
+      closed q s (inl is) e' = from_local l s (inl refl) (sym (ap (step_of f) is) ∙ e')
+      closed q s (inr (inl h)) e' = from_local h.0 s (inr h.2) (sym (ap (step_of f) h.1) ∙ e')
+      closed q s (inr (inr none)) e' = absurd (let both : None ≡ Some s = sym none ∙ e' in cc)
 
 -- the walk came back to its start
 pub ends_back : (f : FuncState) (limit l at next : ℕ) (marks : List Bool) → IsTrail f limit l at marks → next_in f limit at ≡ Some next → next ≡ l → IsRing f (local l)

@@ -1,8 +1,8 @@
 -- Room for the bases of a function's pointers.
-use Rattle.std.proofs.Common.{◌≡◌, ◌<◌, ◌≤◌, ◌+◌, ◌⊎◌, ◌↔◌, ℕ, zero, suc, Bool, true, false, cond, ltb, List, [], ◌∷◌, ◌++◌, Option, Some, None, Result, Ok, Err, length, get_or, take, map, refl, sym, ap, ◌∙◌, subst, inl, inr, ⊎_elim, append_assoc, arith}
-use Rattle.std.specs.Prelude.{option_map, slice_get, position, Contains, OnOk, is_some}
-use Rattle.std.proofs.lemmas.Bool.{both_ways, cases_eq, cases_lt, cases_Bool, cond-true, lt-ltb, eq-eqb, false≢true}
-use Rattle.std.proofs.lemmas.Option.{slice_get_within, slice_get-get_or}
+use Rattle.std.proofs.Common.{◌≡◌, ◌<◌, ◌≤◌, ◌+◌, ℕ, zero, suc, Bool, true, false, cond, ltb, List, [], ◌∷◌, ◌++◌, Option, Some, None, length, get_or, take, map, refl, sym, ap, ◌∙◌, subst, ⊎_elim, append_assoc, arith}
+use Rattle.std.specs.Prelude.{option_map, slice_get, position, Contains, is_some}
+use Rattle.std.proofs.lemmas.Bool.{cases_eq, cases_lt, cases_Bool, cond-true, lt-ltb, false≢true}
+use Rattle.std.proofs.lemmas.Option.{slice_get_within}
 use Rattle.std.proofs.lemmas.List.{take_more, length-append, get_or_append_left, get_or_past}
 use Rattle.std.proofs.Math.Seq.{get_or-append_seam}
 use Rattle.std.proofs.lemmas.List.Quantifiers.{position-Some}
@@ -10,19 +10,18 @@ use Rattle.std.proofs.lemmas.List.Sums.{position_or_len_is}
 use Rattle.std.proofs.lemmas.List.Elements.{Contains-append_cases}
 use Rattle.ms_ir.specs.declared.names.LocalNo.{LocalNo}
 use Rattle.ms_ir.specs.declared.names.GlobalNo.{GlobalNo}
-use Rattle.ms_ir.specs.declared.names.Param.{Param}
 use Rattle.ms_ir.specs.declared.inst.Val.{Val}
 use Rattle.ms_ir.specs.declared.inst.Entry.{Entry}
 use Rattle.ms_ir.specs.declared.inst.Inst.{Inst}
-use Rattle.ms_ir.specs.Func.{Placed, FuncState}
+use Rattle.ms_ir.specs.Func.{FuncState}
 use Rattle.ms_ir.specs.Locals.{IsNumbered}
 use Rattle.ms_alias.specs.declared.loc.Root.{Root}
 use Rattle.ms_alias.specs.declared.loc.Root.TheVariants.{Local, Global}
 use Rattle.ms_alias.specs.declared.sets.Set.{Set}
 use Rattle.ms_alias.specs.declared.sets.Set.TheVariants.{Nothing, Argument, Alloca, Object, Brought}
 use Rattle.ms_alias.specs.Roots.{Maker, maker_of, is_alloca, pointer_of}
-use Rattle.ms_alias.specs.Bases.{IsArgument, pointers_in, sources_in, with_pointer, leads_of, leads_in}
-use Rattle.ms_alias.specs.Tables.{RowState, BasesState, no_row, set_of, row_of, same_root, global_column, IsFor, HasRoom}
+use Rattle.ms_alias.specs.Bases.{IsArgument, pointers_in, with_pointer, leads_of, leads_in}
+use Rattle.ms_alias.specs.Tables.{BasesState, set_of, row_of, same_root, global_column, IsFor, HasRoom}
 use Rattle.ms_alias.specs.Building.{AreKinds, HaveFirst, HaveGlobals, HaveRows, IsKindAt, IsKindIn, IsLonger, row_len, IsBeyond}
 use Rattle.ms_alias.proofs.Makers.{cases_Option, maker_in_blocks, giver_from}
 use Rattle.ms_alias.proofs.Reaching.{root_same}
@@ -55,12 +54,12 @@ first_of p (x ∷ xs) d (suc c) h t =
     ⊎_elim
     (λ (here : p x ≡ true). (zero, (omega arith), here, λ k lt. absurd (omega arith)))
     (λ (not_here : p x ≡ false).
-      let rest = first_of p xs d c (omega arith) t in
-      (suc rest.0, (let lt = rest.1 in omega (arith, lt)), rest.2, before rest.0 rest.3 not_here))
+    let rest = first_of p xs d c (omega arith) t in
+    (suc rest.0, (let lt = rest.1 in omega (arith, lt)), rest.2, before rest.0 rest.3 not_here))
     (cases_Bool (p x)) where
-  before : (i : ℕ) → ((k : ℕ) → k < i → p (get_or xs k d) ≡ false) → p x ≡ false → (k : ℕ) → k < suc i → p (get_or (x ∷ xs) k d) ≡ false
-  before i all n zero lt = n
-  before i all n (suc k) lt = all k (omega arith)
+      before : (i : ℕ) → ((k : ℕ) → k < i → p (get_or xs k d) ≡ false) → p x ≡ false → (k : ℕ) → k < suc i → p (get_or (x ∷ xs) k d) ≡ false
+      before i all n zero lt = n
+      before i all n (suc k) lt = all k (omega arith)
 
 placed : {A : Type 0} (p : A → Bool) (xs : List A) (d : A) (c : ℕ) → c < length xs → p (get_or xs c d) ≡ true → (i : ℕ) × (position p xs ≡ Some i)
 placed p xs d c h t =
@@ -182,14 +181,14 @@ kinds_push : (f : FuncState) (l : ℕ) (columns : List Root) (sets : List Set) (
 kinds_push f l columns sets s old new = record {
   len = (let n = length-append sets (s ∷ []) in let k = old.len in omega (arith, n, k));
   each = λ k h. ⊎_elim
-    (λ (e : k ≡ l).
+      (λ (e : k ≡ l).
       let here : get_or (sets ++ s ∷ []) k Nothing ≡ s = ap (λ j. get_or (sets ++ s ∷ []) j Nothing) (e ∙ sym old.len) ∙ get_or-append_seam sets s [] Nothing in
       let P : ℕ → Set → Type 0 = λ j u. IsKindIn columns f (record { 0 = j }) u in
       subst (P k) (sym here) (subst (λ j. P j s) (sym e) new))
-    (λ (n : k ≡ l → ⊥).
+      (λ (n : k ≡ l → ⊥).
       let lt : k < length sets = (let size = old.len in omega (arith, n, size)) in
       subst (IsKindIn columns f (record { 0 = k })) (sym (get_or_append_left sets (s ∷ []) Nothing k lt)) (old.each k (omega (arith, n))))
-    (cases_eq k l);
+      (cases_eq k l);
 }
 
 pub kinds_plain : (f : FuncState) (l column : ℕ) (columns : List Root) (sets sets' : List Set) (s : Set) → AreKinds f l columns sets → IsKindAt column f (record { 0 = l }) s → ((c : ℕ) → s ≡ Alloca c → ⊥) → sets' ≡ sets ++ s ∷ [] → AreKinds f (l + 1) columns sets'
@@ -210,10 +209,10 @@ none_beyond f n l ge =
     ⊎_elim
     (λ (e : maker_of f l ≡ None). e)
     (λ (some : (m : Maker) × (maker_of f l ≡ Some m)).
-      let there = maker_in_blocks 0 f.blocks l some.0 some.1 in
-      let range = n.result_range l there.0 there.1 there.2 (record { found = there.4; gives = giver_from l there.2 there.5 }) in
-      let lt = range.1 in
-      absurd (omega (arith, lt)))
+    let there = maker_in_blocks 0 f.blocks l some.0 some.1 in
+    let range = n.result_range l there.0 there.1 there.2 (record { found = there.4; gives = giver_from l there.2 there.5 }) in
+    let lt = range.1 in
+    absurd (omega (arith, lt)))
     (cases_Option (maker_of f l))
 
 for_kind : (f : FuncState) (t : BasesState) (l : LocalNo) (old more : List Root) (s : Set) → t.columns ≡ old ++ more → IsKindIn old f l s → ((k : ℕ) → s ≡ Brought k → length (row_of t k).bits ≡ length t.columns) → IsFor t f l s
@@ -230,16 +229,16 @@ room_sets : (f : FuncState) → IsNumbered f → (t : BasesState) (one : List Ro
 room_sets f n t one kinds longer made l =
     ⊎_elim
     (λ (lt : l.0 < f.locals).
-      for_kind f t l one longer.0 (set_of t (Local l)) longer.1 (kinds.each l.0 lt)
-      (λ k e.
-        let kind = subst (IsKindIn one f l) e (kinds.each l.0 lt) in
-        let within : l.0 < length t.sets = (let size = kinds.len in omega (arith, size)) in
-        let row : length (row_of t l.0).bits ≡ length t.columns = made.1 l.0 within ∙ ap (row_len (length t.columns)) e in
-        ap (λ j. length (row_of t j).bits) kind.0 ∙ row))
+    for_kind f t l one longer.0 (set_of t (Local l)) longer.1 (kinds.each l.0 lt)
+    (λ k e.
+    let kind = subst (IsKindIn one f l) e (kinds.each l.0 lt) in
+    let within : l.0 < length t.sets = (let size = kinds.len in omega (arith, size)) in
+    let row : length (row_of t l.0).bits ≡ length t.columns = made.1 l.0 within ∙ ap (row_len (length t.columns)) e in
+    ap (λ j. length (row_of t j).bits) kind.0 ∙ row))
     (λ (ge : f.locals ≤ l.0).
-      let far : length t.sets ≤ l.0 = (let size = kinds.len in omega (arith, size)) in
-      let none : (maker_of f l ≡ None) × (IsArgument f l → ⊥) = (none_beyond f n l ge, λ h. let below = slice_get_within f.params l.0 h.0 h.1 in let first = n.params_first in omega (arith, below)) in
-      subst (IsFor t f l) (sym (get_or_past t.sets l.0 Nothing far)) none)
+    let far : length t.sets ≤ l.0 = (let size = kinds.len in omega (arith, size)) in
+    let none : (maker_of f l ≡ None) × (IsArgument f l → ⊥) = (none_beyond f n l ge, λ h. let below = slice_get_within f.params l.0 h.0 h.1 in let first = n.params_first in omega (arith, below)) in
+    subst (IsFor t f l) (sym (get_or_past t.sets l.0 Nothing far)) none)
     (cases_lt l.0 f.locals)
 
 room_globals : (f : FuncState) → IsNumbered f → (t : BasesState) → HaveFirst f f.locals t.columns → (p : Root) (g : GlobalNo) → Contains (leads_of f p) (Global g) → (c : ℕ) × (global_column t g ≡ Some c)

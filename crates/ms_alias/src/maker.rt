@@ -72,7 +72,13 @@ pub fn maker(func: &Func, l: LocalNo) -> Option<&Inst>
 {
     func.numbered();
     match func.giver(l) {
-        Some(node) => { if makes_pointer(&node.inst) { Some(&node.inst) } else { None } }
+        Some(node) => {
+            if makes_pointer(&node.inst) {
+                Some(&node.inst)
+            } else {
+                None
+            }
+        }
         None => None,
     }
 }
@@ -87,7 +93,11 @@ pub fn home(func: &Func, l: LocalNo) -> Option<BlockNo>
         None => return None,
     };
     match func.inst(i) {
-        Some(inst) => { if !moves(inst) { return None; } }
+        Some(inst) => {
+            if !moves(inst) {
+                return None;
+            }
+        }
         None => return None,
     }
     match func.place_of(i) {

@@ -74,14 +74,23 @@ fn find_origin(func: &Func, rings: &Marks, marks: &mut Marks, l: u64) -> Origin
     'walk: loop {
         let m = match at {
             Root::Local(m) => m,
-            Root::Global(_) => return Origin { root: at, offset: sum },
+            Root::Global(_) => return Origin {
+                root: at,
+                offset: sum,
+            },
         };
         if m.0 >= marks.len() || rings.has(m.0) {
-            return Origin { root: at, offset: sum };
+            return Origin {
+                root: at,
+                offset: sum,
+            };
         }
         let (base, bytes) = match step(func, m) {
             Some(found) => found,
-            None => return Origin { root: at, offset: sum },
+            None => return Origin {
+                root: at,
+                offset: sum,
+            },
         };
         if marks.has(m.0) {
             unreachable!();

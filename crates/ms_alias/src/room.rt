@@ -32,8 +32,20 @@ fn set_for(func: &Func, l: u64, column: u32) -> Set
     func.numbered();
     let argument = is_argument(func, l);
     match maker(func, LocalNo(l)) {
-        Some(inst) => { if is_alloca(inst) { Set::Alloca(column) } else { Set::Brought(l as u32) } }
-        None => { if argument { Set::Argument } else { Set::Nothing } }
+        Some(inst) => {
+            if is_alloca(inst) {
+                Set::Alloca(column)
+            } else {
+                Set::Brought(l as u32)
+            }
+        }
+        None => {
+            if argument {
+                Set::Argument
+            } else {
+                Set::Nothing
+            }
+        }
     }
 }
 
@@ -63,9 +75,7 @@ fn find_sets(
 fn column_of(columns: &[Root], g: GlobalNo) -> Option<usize>
     ensures { result ≡ position (same_root (GlobalRoot g)) columns.now }
 {
-    columns
-        .iter()
-        .position(|q| same_root(Root::Global(g), *q))
+    columns.iter().position(|q| same_root(Root::Global(g), *q))
 }
 
 // A column for a value that is a global, where there is none.

@@ -6,7 +6,11 @@ use ms_ir::Arg;
 /// callee may know besides, and memory that no pointer reaches.
 #[derive(Clone, Copy)]
 pub enum Touch<'a> {
-    Span { root: Root, from: i64, len: u32 },
+    Span {
+        root: Root,
+        from: i64,
+        len: u32,
+    },
     Call {
         args: &'a [Arg],
         other: bool,

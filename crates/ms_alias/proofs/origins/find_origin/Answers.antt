@@ -1,13 +1,13 @@
-use Rattle.std.proofs.Common.{◌≡◌, ◌<◌, ◌+ℤ◌, refl, false, Some, length, inl, inr, sym, ap, ◌∙◌, subst, arith}
+use Rattle.std.proofs.Common.{◌≡◌, ◌<◌, ◌+ℤ◌, false, Some, length, inl, inr, sym, ap, ◌∙◌, arith}
 use Rattle.std.specs.Prelude.{option_map}
-use Rattle.std.proofs.lemmas.Int.{ints, to_z-of_z}
+use Rattle.std.proofs.lemmas.Int.{to_z-of_z}
 use Rattle.std.proofs.lemmas.List.{length-replicate, length-set}
 use mir.Syntax.{w64}
 use mir.Val.{SFits, to_z}
 use Rattle.ms_flow.proofs.Steps.{unseen-set}
 use Rattle.ms_alias.specs.declared.loc.Root.TheVariants.{Local}
-use Rattle.ms_alias.specs.Roots.{pair_step, step_of, IsEnd, step_by_maker}
-use Rattle.ms_alias.proofs.Sums.{IsOnWay, way_begun, way_ends, way_more, way_fits, near_fits, not_ring, way_at, global_end}
+use Rattle.ms_alias.specs.Roots.{pair_step, step_of, step_by_maker}
+use Rattle.ms_alias.proofs.Sums.{way_begun, way_ends, way_more, way_fits, near_fits, not_ring, way_at, global_end}
 use Rattle.ms_alias.proofs.origins.find_origin.Goals as goal
 use Rattle.ms_alias.proofs.origins.find_origin.Goals.{then-m-len-via-then-m-len, then-m-len-via-else-m-len+then-has}
 
@@ -27,10 +27,10 @@ returns-then-m-len-clause-root c =
     let way = way_at f c.args.l c.walk.at c.in-Local.m (to_z w64 c.walk.sum-bits) c.walk.marks c.in-Local.is c.walk.invariant.0 in
     let same = c.walk.invariant.1 in
     elim c.then-m-len.branch [
-      then-m-len-via-then-m-len w ↦
-        way_ends f c.args.l (Local c.in-Local.m) (to_z w64 c.walk.sum-bits) c.walk.marks way (inl (ap step_by_maker (c.requires.beyond c.in-Local.m (let t = w.if-m-len.true in let k = c.len.ensures.len in let s = c.requires.same in omega arith))))
+      | then-m-len-via-then-m-len w ↦
+          way_ends f c.args.l (Local c.in-Local.m) (to_z w64 c.walk.sum-bits) c.walk.marks way (inl (ap step_by_maker (c.requires.beyond c.in-Local.m (let t = w.if-m-len.true in let k = c.len.ensures.len in let s = c.requires.same in omega arith))))
       | then-m-len-via-else-m-len+then-has w ↦
-        way_ends f c.args.l (Local c.in-Local.m) (to_z w64 c.walk.sum-bits) c.walk.marks way (inr ((c.requires.rings.each c.in-Local.m).0 (sym w.has.ensures ∙ w.if-has.true)))
+          way_ends f c.args.l (Local c.in-Local.m) (to_z w64 c.walk.sum-bits) c.walk.marks way (inr ((c.requires.rings.each c.in-Local.m).0 (sym w.has.ensures ∙ w.if-has.true)))
     ]
 
 pub returns-in-None-clause-root : goal.returns-in-None-clause-root

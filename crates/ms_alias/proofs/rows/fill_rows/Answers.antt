@@ -1,6 +1,6 @@
-use Rattle.std.proofs.Common.{◌≡◌, ◌<◌, length, sym, ap, ◌∙◌, subst, arith}
+use Rattle.std.proofs.Common.{length, sym, ap, ◌∙◌, arith}
 use Rattle.ms_alias.specs.Tables.{BasesState}
-use Rattle.ms_alias.proofs.Filled.{AreFilled, filled_none, filled_more, filled_skip, filled_room, filled_all, row_there}
+use Rattle.ms_alias.proofs.Filled.{filled_more, filled_skip, filled_room, filled_all, row_there}
 use Rattle.ms_alias.proofs.rows.fill_rows.Goals as goal
 use Rattle.ms_alias.proofs.rows.fill_rows.Goals.{in-Brought, in_default}
 
@@ -20,18 +20,18 @@ loop-l-preserved c =
     let size = c.count-l-end.ensures in
     let below = c.loop-l-test.true in
     elim c.match-set_of.branch [
-      in-Brought w ↦
-        rw (w.bases-is, w.flood-is) (
-          filled_more c.args.func.now c.args.bases.now c.loop-l.bases w.fill_row.new.bases c.loop-l.l c.requires.room a (omega arith) w.fill_row.ensures.kept w.fill_row.ensures.row (w.fill_row.ensures.len ∙ columns),
-          w.fill_row.ensures.marks ∙ sets,
-          w.fill_row.ensures.bits ∙ columns,
-        )
+      | in-Brought w ↦
+          rw (w.bases-is, w.flood-is) (
+            filled_more c.args.func.now c.args.bases.now c.loop-l.bases w.fill_row.new.bases c.loop-l.l c.requires.room a (omega arith) w.fill_row.ensures.kept w.fill_row.ensures.row (w.fill_row.ensures.len ∙ columns),
+            w.fill_row.ensures.marks ∙ sets,
+            w.fill_row.ensures.bits ∙ columns,
+          )
       | in_default w ↦
-        rw (w.bases-is, w.flood-is) (
-          filled_skip c.args.func.now c.args.bases.now c.loop-l.bases c.loop-l.l a (λ k e. w.in_default.not-Brought k (c.set_of.ensures ∙ e)),
-          c.loop-l.invariant.1,
-          c.loop-l.invariant.2,
-        )
+          rw (w.bases-is, w.flood-is) (
+            filled_skip c.args.func.now c.args.bases.now c.loop-l.bases c.loop-l.l a (λ k e. w.in_default.not-Brought k (c.set_of.ensures ∙ e)),
+            c.loop-l.invariant.1,
+            c.loop-l.invariant.2,
+          )
     ]
 
 pub returns-clause-room : goal.returns-clause-room
