@@ -1,25 +1,21 @@
 -- Which allocas are captured, as marks by column.
-use Rattle.std.proofs.Common.{◌≡◌, ◌<◌, ◌≤◌, ◌+◌, ◌⊎◌, ◌↔◌, ℕ, zero, suc, Bool, true, false, List, [], ◌∷◌, ◌++◌, Option, Some, None, length, get_or, take, refl, sym, ap, ◌∙◌, subst, inl, inr, ⊎_elim, arith}
-use Rattle.std.specs.Prelude.{slice_get, Contains}
-use Rattle.std.proofs.lemmas.Bool.{both_ways, cases_eq, cases_lt, false≢true}
-use Rattle.std.proofs.lemmas.Option.{slice_get_within}
+use Rattle.std.proofs.Common.{◌≡◌, ◌<◌, ◌+◌, ◌⊎◌, ◌↔◌, ℕ, Bool, true, false, List, [], ◌∷◌, ◌++◌, Option, Some, None, length, get_or, take, refl, sym, ap, ◌∙◌, subst, inl, inr, ⊎_elim, arith}
+use Rattle.std.specs.Prelude.{Contains}
+use Rattle.std.proofs.lemmas.Bool.{both_ways, cases_eq}
 use Rattle.std.proofs.lemmas.List.{take_more}
 use Rattle.std.proofs.lemmas.List.Elements.{Contains-push, Contains-push_cases, Contains-append_left}
-use Rattle.ms_ir.specs.declared.names.LocalNo.{LocalNo}
 use Rattle.ms_ir.specs.declared.names.InstNo.{InstNo}
 use Rattle.ms_ir.specs.declared.inst.Val.{Val}
 use Rattle.ms_ir.specs.declared.inst.Arg.{Arg}
 use Rattle.ms_ir.specs.declared.inst.Inst.{Inst}
-use Rattle.ms_ir.specs.Func.{Placed, Block, FuncState, IsAt, IsNowhere}
+use Rattle.ms_ir.specs.Func.{Placed, FuncState, IsAt, IsNowhere}
 use Rattle.ms_ir.specs.Locals.{IsNumbered}
 use Rattle.ms_alias.specs.declared.loc.Root.{Root}
-use Rattle.ms_alias.specs.declared.loc.Root.TheVariants.{Local, Global}
-use Rattle.ms_alias.specs.declared.sets.Set.{Set}
-use Rattle.ms_alias.specs.declared.sets.Set.TheVariants.{Nothing, Argument, Alloca, Object, Brought}
+use Rattle.ms_alias.specs.declared.sets.Set.TheVariants.{Nothing, Alloca}
 use Rattle.ms_alias.specs.Roots.{pointer_of}
 use Rattle.ms_alias.specs.Captured.{args_of, skips}
-use Rattle.ms_alias.specs.Tables.{BasesState, set_of, set_of_option, val_set}
-use Rattle.ms_alias.specs.Building.{Adds, HaveColumns, IsAllocaOf, IsKeptBy, IsKeptAt, IsCountedAs}
+use Rattle.ms_alias.specs.Tables.{BasesState, set_of_option, val_set}
+use Rattle.ms_alias.specs.Building.{Adds, HaveColumns, IsKeptBy, IsKeptAt, IsCountedAs}
 use Rattle.ms_alias.proofs.Makers.{not_nowhere}
 
 pub val_columns : (t : BasesState) → HaveColumns t → (v : Val) (c : ℕ) → val_set t v ≡ Alloca c → c < length t.columns

@@ -1,19 +1,19 @@
 -- What a put and a take of an instruction that makes no pointer leave.
-use Rattle.std.proofs.Common.{◌≡◌, ◌<◌, ◌≤◌, ◌+◌, ◌⊎◌, ◌↔◌, ℕ, zero, suc, Bool, true, false, cond, List, [], ◌∷◌, Option, Some, None, length, get_or, set, eqb, refl, sym, ap, ◌∙◌, subst, inl, inr, ⊎_elim, get_or-set_other, get_or-set_same, arith}
-use Rattle.std.specs.Prelude.{slice_get, insert, remove, ◌&&◌}
-use Rattle.std.proofs.lemmas.Bool.{both_ways, cases_eq, cond-false, eqb-true, eqb-false, ne_eqb, and_left}
+use Rattle.std.proofs.Common.{◌≡◌, ◌<◌, ◌↔◌, ℕ, zero, suc, false, cond, List, [], ◌∷◌, Some, None, length, get_or, set, refl, sym, ap, ◌∙◌, subst, ⊎_elim, get_or-set_other, get_or-set_same, arith}
+use Rattle.std.specs.Prelude.{slice_get, insert, remove}
+use Rattle.std.proofs.lemmas.Bool.{cases_eq, cond-false, eqb-false, ne_eqb, and_left}
 use Rattle.ms_ir.specs.declared.names.LocalNo.{LocalNo}
 use Rattle.ms_ir.specs.declared.names.InstNo.{InstNo}
 use Rattle.ms_ir.specs.declared.names.Name.{Name}
 use Rattle.ms_ir.specs.declared.inst.Inst.{Inst}
 use Rattle.ms_ir.specs.Inst.{result_for}
-use Rattle.ms_ir.specs.Func.{Placed, Block, FuncState, IsAt, IsTaken, no_block, insts_at, with_insts, put_at, cut_at, after_put}
+use Rattle.ms_ir.specs.Func.{Placed, Block, FuncState, IsAt, IsTaken, no_block, insts_at, with_insts, cut_at, after_put}
 use Rattle.ms_ir.specs.Locals.{IsNumbered}
 use Rattle.ms_ir.specs.Graph.{successors}
 use Rattle.ms_flow.specs.Table.{edges_of, run_to}
-use Rattle.ms_alias.specs.Roots.{Maker, makes, makes_pointer, is_local, maker_in, maker_from, maker_of, or_else}
+use Rattle.ms_alias.specs.Roots.{makes, makes_pointer, is_local, maker_in, maker_from, or_else}
 use Rattle.ms_alias.specs.Bases.{Alloca as AllocaBase}
-use Rattle.ms_alias.specs.Captured.{IsCaptured, IsCapturedBut, IsKept, skips}
+use Rattle.ms_alias.specs.Captured.{IsCaptured, IsCapturedBut, skips}
 use Rattle.ms_alias.specs.Tables.{AliasState, IsAliasOf, HasPointers, IsCapturesBut}
 use Rattle.ms_alias.proofs.Same.{SamePointers, same_back, kept_same, pointers_same}
 

@@ -1,20 +1,19 @@
 -- The rows of all locals.
-use Rattle.std.proofs.Common.{◌≡◌, ◌<◌, ◌≤◌, ◌+◌, ◌⊎◌, ◌↔◌, ℕ, zero, suc, Bool, true, false, List, [], ◌∷◌, Option, Some, None, length, get_or, set, refl, sym, ap, ◌∙◌, subst, inl, inr, ⊎_elim, get_or-set_other, get_or-set_same, arith}
-use Rattle.std.specs.Prelude.{slice_get, Contains}
+use Rattle.std.proofs.Common.{◌≡◌, ◌<◌, ◌≤◌, ◌+◌, ℕ, zero, suc, true, List, [], Some, None, length, get_or, set, refl, sym, ap, ◌∙◌, subst, inl, inr, ⊎_elim, get_or-set_other, arith}
+use Rattle.std.specs.Prelude.{Contains}
 use Rattle.std.proofs.lemmas.Bool.{both_ways, cases_eq, cases_lt}
 use Rattle.std.proofs.lemmas.List.{length-set, get_or_past}
 use Rattle.ms_ir.specs.declared.names.LocalNo.{LocalNo}
-use Rattle.ms_ir.specs.declared.names.GlobalNo.{GlobalNo}
 use Rattle.ms_ir.specs.declared.inst.Inst.{Inst}
-use Rattle.ms_ir.specs.declared.inst.Inst.TheVariants.{Alloca as AllocaInst, Gep, Load, Store, Copy, Call, Bin, Cmp, Select, Cast, Phi}
+use Rattle.ms_ir.specs.declared.inst.Inst.TheVariants.{Alloca as AllocaInst}
 use Rattle.ms_ir.specs.Func.{FuncState}
 use Rattle.ms_alias.specs.declared.loc.Root.{Root}
 use Rattle.ms_alias.specs.declared.loc.Root.TheVariants.{Local, Global}
 use Rattle.ms_alias.specs.declared.sets.Set.{Set}
 use Rattle.ms_alias.specs.declared.sets.Set.TheVariants.{Nothing, Argument, Alloca, Object, Brought}
 use Rattle.ms_alias.specs.Roots.{Maker, maker_of, is_alloca}
-use Rattle.ms_alias.specs.Bases.{Base, Alloca as AllocaBase, Argument as ArgumentBase, HasBase, IsNamed, IsBrought, IsArgument, leads_of, leads_in, pointers_in, sources_in}
-use Rattle.ms_alias.specs.Tables.{RowState, no_row, BasesState, set_of, row_of, base_of, IsColumn, IsRow, IsFor, IsSet, IsBases, HasRoom, HasOneBase}
+use Rattle.ms_alias.specs.Bases.{Base, Alloca as AllocaBase, Argument as ArgumentBase, IsNamed, IsBrought, IsArgument, leads_of, leads_in, pointers_in, sources_in}
+use Rattle.ms_alias.specs.Tables.{RowState, no_row, BasesState, set_of, row_of, IsColumn, IsRow, IsFor, IsSet, IsBases, HasRoom}
 use Rattle.ms_alias.proofs.Rings.{local}
 
 -- a row tells the same where other rows stand beside it

@@ -1,14 +1,13 @@
 -- The search for the bases of a local.
-use Rattle.std.proofs.Common.{◌≡◌, ◌≢◌, ◌<◌, ◌≤◌, ◌+◌, ◌*◌, ◌⊎◌, ◌↔◌, ℕ, zero, suc, Bool, true, false, cond, List, [], ◌∷◌, ◌++◌, Option, Some, None, length, get_or, set, refl, sym, ap, ◌∙◌, subst, inl, inr, ⊎_elim, get_or-set_other, get_or-set_same, arith}
+use Rattle.std.proofs.Common.{◌≡◌, ◌<◌, ◌≤◌, ◌+◌, ◌*◌, ◌⊎◌, ℕ, zero, suc, Bool, true, false, List, [], ◌∷◌, ◌++◌, Option, Some, None, length, get_or, set, refl, sym, ap, ◌∙◌, subst, inl, inr, ⊎_elim, get_or-set_other, get_or-set_same, arith}
 use Rattle.std.proofs.Math.ListN.{replicate}
-use Rattle.std.specs.Prelude.{slice_get, Contains, IfNone}
-use Rattle.std.specs.Option.{option_to_list}
+use Rattle.std.specs.Prelude.{slice_get, Contains}
 use Rattle.std.proofs.lemmas.Bool.{both_ways, cases_eq, cases_Bool, cases_lt, false≢true, cond-true, cond-false}
 use Rattle.std.proofs.lemmas.List.{length-set, length-replicate, length-append, get_or_past}
 use Rattle.std.proofs.lemmas.Option.{slice_get_within}
 use Rattle.std.proofs.lemmas.List.Elements.{Contains-push, Contains-push_cases, Contains-append_left}
 use Rattle.ms_flow.specs.Walk.{unseen}
-use Rattle.ms_flow.proofs.Steps.{unseen-set, unseen_le}
+use Rattle.ms_flow.proofs.Steps.{unseen-set}
 use Rattle.ms_ir.specs.declared.names.LocalNo.{LocalNo}
 use Rattle.ms_ir.specs.declared.names.GlobalNo.{GlobalNo}
 use Rattle.ms_ir.specs.Func.{FuncState}
@@ -16,10 +15,10 @@ use Rattle.ms_alias.specs.declared.loc.Root.{Root}
 use Rattle.ms_alias.specs.declared.loc.Root.TheVariants.{Local, Global}
 use Rattle.ms_alias.specs.declared.sets.Set.{Set}
 use Rattle.ms_alias.specs.declared.sets.Set.TheVariants.{Nothing, Argument, Alloca, Object, Brought}
-use Rattle.ms_alias.specs.Roots.{Maker, maker_of, is_alloca}
-use Rattle.ms_alias.specs.Bases.{Base, Alloca as AllocaBase, Argument as ArgumentBase, Object as ObjectBase, Outside, Hidden, HasBase, IsNamed, IsBrought, IsArgument, IsAllocaLocal, leads_of, leads_in}
+use Rattle.ms_alias.specs.Roots.{Maker, is_alloca}
+use Rattle.ms_alias.specs.Bases.{Base, Alloca as AllocaBase, Argument as ArgumentBase, Object as ObjectBase, HasBase, IsNamed, IsBrought, IsArgument, IsAllocaLocal, leads_of, leads_in}
 use Rattle.ms_alias.specs.Meeting.{IsOuter, IsOuterBase}
-use Rattle.ms_alias.specs.Tables.{RowState, BasesState, set_of, bit_of, global_column, base_of, IsColumn, IsRow, IsFor, HasRoom}
+use Rattle.ms_alias.specs.Tables.{BasesState, set_of, bit_of, global_column, base_of, IsColumn, IsRow, IsFor, HasRoom}
 use Rattle.ms_alias.specs.Building.{FloodState, flood_begun, met, met_column, met_outer, met_argument, met_global, took, took_all, owned, visited}
 use Rattle.ms_alias.proofs.Meets.{HasArgument, at_column}
 use Rattle.ms_alias.proofs.Rings.{local, get_or-replicate}

@@ -1,5 +1,5 @@
 -- One location at most, and tests for which instructions may write or read one.
-use Rattle.std.proofs.Common.{◌≡◌, ◌+◌, ◌⊎◌, ◌↔◌, ℕ, zero, suc, ℤ, Bool, true, false, List, [], ◌∷◌, Option, Some, None, eqb, refl, sym, ap, ◌∙◌, subst, inl, inr, ⊎_elim, arith}
+use Rattle.std.proofs.Common.{◌≡◌, ◌↔◌, ℕ, zero, suc, ℤ, Bool, true, false, List, [], ◌∷◌, Option, Some, None, eqb, refl, sym, ap, ◌∙◌, subst, ⊎_elim}
 use Rattle.std.specs.Prelude.{◌&&◌, ◌||◌, slice_get}
 use Rattle.std.proofs.lemmas.Bool.{eqb-true, eq-eqb, and_parts, and_from, or_cases, or_left, or_right, false≢true}
 use Rattle.ms_ir.specs.declared.names.InstNo.{InstNo}
@@ -13,7 +13,7 @@ use Rattle.ms_alias.specs.declared.loc.Root.{Root}
 use Rattle.ms_alias.specs.declared.loc.Loc.{Loc}
 use Rattle.ms_alias.specs.declared.loc.Loc.TheVariants.{Bytes, ReadBy}
 use Rattle.ms_alias.specs.Roots.{pointer_of, HasRoot}
-use Rattle.ms_alias.specs.Reaches.{Reach, Span, IsLocRead, IsLocWritten, ReadsLoc, WritesLoc, IsReachOf}
+use Rattle.ms_alias.specs.Reaches.{Reach, Span, IsLocRead, IsLocWritten, ReadsLoc, WritesLoc}
 use Rattle.ms_alias.specs.Meeting.{MayWrite, MayRead}
 use Rattle.ms_alias.specs.Tables.{AliasState, IsAliasOf, IsReachBy, read_reach, write_reach, reaches_meet, meet_in}
 use Rattle.ms_alias.proofs.RootLemmas.{one_root, read_from, read_to, written_from, written_to}

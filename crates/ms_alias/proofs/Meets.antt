@@ -1,6 +1,6 @@
 -- When sets of bases meet.
-use Rattle.std.proofs.Common.{◌≡◌, ◌<◌, ◌+◌, ◌⊎◌, ◌↔◌, ℕ, zero, suc, Bool, true, false, List, [], ◌∷◌, Option, Some, None, length, get_or, eqb, refl, sym, ap, ◌∙◌, subst, inl, inr, ⊎_elim, arith}
-use Rattle.std.specs.Prelude.{◌&&◌, ◌||◌, slice_get, position}
+use Rattle.std.proofs.Common.{◌≡◌, ◌⊎◌, ℕ, zero, suc, Bool, true, false, List, [], ◌∷◌, Option, Some, None, get_or, refl, sym, ap, ◌∙◌, subst, inl, inr, ⊎_elim}
+use Rattle.std.specs.Prelude.{◌&&◌, ◌||◌, slice_get}
 use Rattle.std.proofs.lemmas.Bool.{eqb-true, eq-eqb, and_parts, and_from, or_cases, or_left, or_right, false≢true}
 use Rattle.std.proofs.lemmas.Option.{slice_get-get_or}
 use Rattle.std.proofs.lemmas.List.Quantifiers.{position-Some}
@@ -13,8 +13,7 @@ use Rattle.ms_alias.specs.declared.sets.Set.{Set}
 use Rattle.ms_alias.specs.declared.sets.Set.TheVariants.{Nothing, Argument, Alloca, Object, Brought}
 use Rattle.ms_alias.specs.Bases.{Base, Alloca as AllocaBase, Argument as ArgumentBase, Object as ObjectBase, Outside, Hidden, HasBase, IsNamed}
 use Rattle.ms_alias.specs.Meeting.{MayBeOne, IsOuter, IsOuterBase}
-use Rattle.ms_alias.specs.Tables.{BasesState, share_mark, bit_of, bit_at, row_of, set_of, global_column, same_root, have_common, has_argument, has_outer, sets_meet, base_of, IsColumn, IsRow, IsSet, IsBases, HasOneBase}
-use Rattle.ms_alias.proofs.Makers.{is_number}
+use Rattle.ms_alias.specs.Tables.{BasesState, share_mark, bit_of, bit_at, row_of, set_of, global_column, same_root, have_common, has_argument, has_outer, sets_meet, base_of, IsColumn, IsRow, IsSet}
 
 -- the bases of a pointer have names
 abbrev IsPlain : Base → Type 0

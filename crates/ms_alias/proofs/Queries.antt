@@ -1,7 +1,7 @@
 -- What the tables answer of an instruction is what the function says of it.
-use Rattle.std.proofs.Common.{◌≡◌, ◌⊎◌, ◌↔◌, ℕ, ℤ, pos, ◌+ℤ◌, Bool, true, false, cond, List, [], Option, Some, None, refl, sym, ap, ◌∙◌, subst, inl, inr, ⊎_elim, arith}
-use Rattle.std.specs.Prelude.{◌&&◌, ◌||◌, not, slice_get, int_lt, int_le, ◌≤ℤ◌, ◌<ℤ◌}
-use Rattle.std.proofs.lemmas.Bool.{and_parts, and_from, false≢true, both_ways, cases_Bool, not-true, not_from_false, cond-true, cond-false}
+use Rattle.std.proofs.Common.{◌≡◌, ◌↔◌, ℕ, ℤ, pos, ◌+ℤ◌, Bool, true, false, cond, List, Option, Some, None, refl, sym, ap, ◌∙◌, subst, ⊎_elim, arith}
+use Rattle.std.specs.Prelude.{◌&&◌, ◌||◌, not, int_lt, int_le, ◌≤ℤ◌, ◌<ℤ◌}
+use Rattle.std.proofs.lemmas.Bool.{and_parts, and_from, false≢true, both_ways, cases_Bool, not-true, not_from_false, cond-true}
 use Rattle.std.proofs.lemmas.Int.{ints}
 use Rattle.ms_ir.specs.declared.names.LocalNo.{LocalNo}
 use Rattle.ms_ir.specs.declared.names.InstNo.{InstNo}
@@ -10,17 +10,17 @@ use Rattle.ms_ir.specs.declared.inst.Inst.{Inst}
 use Rattle.ms_ir.specs.declared.inst.Inst.TheVariants.{Load, Store, Copy, Call}
 use Rattle.ms_ir.specs.Func.{Placed, Block, FuncState, IsAt, IsNowhere}
 use Rattle.ms_alias.specs.declared.loc.Root.{Root}
-use Rattle.ms_alias.specs.declared.loc.Root.TheVariants.{Local, Global}
+use Rattle.ms_alias.specs.declared.loc.Root.TheVariants.{Local}
 use Rattle.ms_alias.specs.declared.loc.Loc.{Loc}
 use Rattle.ms_alias.specs.declared.loc.Loc.TheVariants.{Bytes, ReadBy}
 use Rattle.ms_alias.specs.declared.origins.Origin.{Origin}
 use Rattle.ms_alias.specs.declared.sets.Set.{Set}
-use Rattle.ms_alias.specs.declared.sets.Set.TheVariants.{Nothing, Argument, Alloca, Object, Brought}
-use Rattle.ms_alias.specs.Roots.{pointer_of, HasRoot, IsTurning, IsFixed}
+use Rattle.ms_alias.specs.declared.sets.Set.TheVariants.{Alloca}
+use Rattle.ms_alias.specs.Roots.{pointer_of, HasRoot, IsFixed}
 use Rattle.ms_alias.specs.Captured.{IsCaptured}
-use Rattle.ms_alias.specs.Reaches.{Reach, Span, Called, size_of, IsReachOf, IsRead, IsWritten, IsLocRead, IsLocWritten, ReadsLoc, WritesLoc}
-use Rattle.ms_alias.specs.Meeting.{HoldsByte, Meet, MayWrite, MayRead, MustWrite}
-use Rattle.ms_alias.specs.Tables.{AliasState, same_root, set_of, is_turning, origin_of, origin_in, val_origin, bytes_at, read_loc, written_loc, read_reach, write_reach, reaches_meet, meet_in, holds_byte, must_hold, caught_at, IsReadBy, IsWrittenBy, IsReachBy, IsOrigins, IsAliasOf, IsFor}
+use Rattle.ms_alias.specs.Reaches.{Reach, Span, Called, size_of, IsReachOf, IsWritten, IsLocRead, IsLocWritten, ReadsLoc, WritesLoc}
+use Rattle.ms_alias.specs.Meeting.{HoldsByte, MayWrite, MayRead, MustWrite}
+use Rattle.ms_alias.specs.Tables.{AliasState, same_root, set_of, is_turning, origin_of, origin_in, val_origin, bytes_at, read_loc, written_loc, read_reach, write_reach, meet_in, holds_byte, must_hold, caught_at, IsReadBy, IsWrittenBy, IsReachBy, IsOrigins, IsAliasOf, IsFor}
 use Rattle.ms_alias.proofs.Makers.{not_nowhere}
 use Rattle.ms_alias.proofs.RootLemmas.{one_root, origin_told, turning_from, turning_to, read_from, read_to, written_from, written_to}
 use Rattle.ms_alias.proofs.Reaching.{reaches_from, reaches_to, root_is, root_same}

@@ -1,8 +1,8 @@
 -- When reaches meet, by the tables and by their meaning.
-use Rattle.std.proofs.Common.{◌≡◌, ◌<◌, ◌≤◌, ◌+◌, ◌⊎◌, ◌↔◌, ℕ, zero, suc, ℤ, pos, ◌+ℤ◌, Bool, true, false, cond, ltb, List, [], ◌∷◌, Option, Some, None, length, get_or, eqb, refl, sym, ap, ◌∙◌, subst, inl, inr, ⊎_elim, arith}
-use Rattle.std.specs.Prelude.{◌&&◌, ◌||◌, not, slice_get, position, Contains, nat_lt, int_lt, ◌≤ℤ◌, ◌<ℤ◌}
+use Rattle.std.proofs.Common.{◌≡◌, ◌<◌, ◌⊎◌, ℕ, zero, suc, ℤ, pos, ◌+ℤ◌, Bool, true, false, List, [], ◌∷◌, Option, Some, None, get_or, refl, sym, ap, ◌∙◌, subst, inl, inr, ⊎_elim, arith}
+use Rattle.std.specs.Prelude.{◌&&◌, ◌||◌, not, Contains, nat_lt, int_lt, ◌≤ℤ◌, ◌<ℤ◌}
 use Rattle.std.specs.List.{list_any}
-use Rattle.std.proofs.lemmas.Bool.{eqb-true, eq-eqb, and_parts, and_from, and_cases, or_cases, or_left, or_right, false≢true, both_ways, cases_Bool, ltb-true, lt-ltb, not-true, not-false, not_from_false, cond-true, cond-false}
+use Rattle.std.proofs.lemmas.Bool.{eqb-true, eq-eqb, and_parts, and_from, or_cases, or_left, or_right, false≢true, both_ways, cases_Bool, ltb-true, lt-ltb, not-true, not_from_false, cond-true, cond-false}
 use Rattle.std.proofs.lemmas.Int.{ints, by_lt_z}
 use Rattle.std.proofs.lemmas.List.Folds.{list_any_at}
 use Rattle.ms_ir.specs.declared.names.LocalNo.{LocalNo}
@@ -14,14 +14,14 @@ use Rattle.ms_alias.specs.declared.loc.Root.{Root}
 use Rattle.ms_alias.specs.declared.loc.Root.TheVariants.{Local, Global}
 use Rattle.ms_alias.specs.declared.sets.Set.{Set}
 use Rattle.ms_alias.specs.declared.sets.Set.TheVariants.{Nothing, Argument, Alloca, Object, Brought}
-use Rattle.ms_alias.specs.Roots.{pointer_of, IsTurning, IsFixed}
+use Rattle.ms_alias.specs.Roots.{pointer_of, IsFixed}
 use Rattle.ms_alias.specs.Bases.{Base, Alloca as AllocaBase, Argument as ArgumentBase, Object as ObjectBase, Outside, Hidden, HasBase, HasValBase, IsNamed, IsBrought}
 use Rattle.ms_alias.specs.Captured.{IsCaptured}
 use Rattle.ms_alias.specs.Reaches.{Reach, Span, Called, IsKnown, IsReached}
-use Rattle.ms_alias.specs.Meeting.{MayBeOne, IsOuter, IsOuterBase, HoldsByte, HaveOneRoot, ShareByte, HasLength, ShareBase, Meet}
-use Rattle.ms_alias.specs.Tables.{AliasState, BasesState, same_root, share_mark, bit_of, row_of, set_of, have_common, has_argument, has_outer, sets_meet, is_caught, is_known, set_of_option, val_set, args_meet, call_meets, call_meets_args, are_known, calls_meet, ranges_meet, is_turning, spans_meet, reaches_meet, IsColumn, IsSet, IsBases, IsCaptures, IsAliasOf, HasOneBase, base_of}
+use Rattle.ms_alias.specs.Meeting.{MayBeOne, IsOuterBase, HoldsByte, ShareBase, Meet}
+use Rattle.ms_alias.specs.Tables.{AliasState, BasesState, same_root, row_of, set_of, have_common, has_argument, has_outer, sets_meet, is_caught, is_known, set_of_option, val_set, args_meet, call_meets, call_meets_args, are_known, calls_meet, ranges_meet, is_turning, spans_meet, reaches_meet, IsSet, IsBases, IsCaptures, IsAliasOf, base_of}
 use Rattle.ms_alias.proofs.Makers.{is_number}
-use Rattle.ms_alias.proofs.Meets.{plain, SharePointers, sets_from, sets_to, outer_from, outer_to, shared_from, shared_to}
+use Rattle.ms_alias.proofs.Meets.{plain, sets_from, sets_to, outer_from, outer_to, shared_from, shared_to}
 use Rattle.ms_alias.proofs.RootLemmas.{turning_from, turning_to}
 
 no_member : {A : Type 0} (x : A) → Contains [] x → ⊥

@@ -1,25 +1,24 @@
 -- Tables that were found afresh are the function's.
-use Rattle.std.proofs.Common.{◌≡◌, ◌<◌, ◌≤◌, ◌+◌, ◌⊎◌, ◌↔◌, ℕ, zero, suc, Bool, true, false, List, [], ◌∷◌, Option, Some, None, length, get_or, refl, sym, ap, ◌∙◌, subst, inl, inr, ⊎_elim, arith}
+use Rattle.std.proofs.Common.{◌≡◌, ◌⊎◌, ◌↔◌, ℕ, Bool, true, false, List, Option, Some, None, length, get_or, refl, sym, ap, ◌∙◌, subst, inl, inr}
 use mathlib.Core.Bool.{beq}
-use Rattle.std.specs.Prelude.{slice_get, Contains, ◌≢◌, not}
+use Rattle.std.specs.Prelude.{slice_get, ◌≢◌, not}
 use Rattle.std.proofs.lemmas.Bool.{false≢true}
 use Rattle.std.proofs.lemmas.Option.{slice_get_within}
 use Rattle.std.proofs.lemmas.List.{get_or_past}
 use Rattle.ms_ir.specs.declared.names.LocalNo.{LocalNo}
 use Rattle.ms_ir.specs.declared.names.InstNo.{InstNo}
 use Rattle.ms_ir.specs.declared.inst.Val.{Val}
-use Rattle.ms_ir.specs.declared.inst.Arg.{Arg}
-use Rattle.ms_ir.specs.Func.{Placed, FuncState, IsAt, insts_at}
+use Rattle.ms_ir.specs.Func.{FuncState, IsAt}
 use Rattle.ms_ir.proofs.FuncLemmas.{block_there}
 use Rattle.ms_alias.specs.declared.loc.Root.{Root}
 use Rattle.ms_alias.specs.declared.loc.Root.TheVariants.{Local, Global}
 use Rattle.ms_alias.specs.declared.sets.Set.{Set}
 use Rattle.ms_alias.specs.declared.sets.Set.TheVariants.{Nothing, Argument, Alloca, Object, Brought}
-use Rattle.ms_alias.specs.Roots.{Maker, maker_of, pointer_of}
-use Rattle.ms_alias.specs.Bases.{Base, Alloca as AllocaBase, Argument as ArgumentBase, Object as ObjectBase, HasBase, HasValBase}
-use Rattle.ms_alias.specs.Captured.{args_of, skips, IsCaptured, IsCapturedBut, IsKept, Differ}
-use Rattle.ms_alias.specs.Tables.{BasesState, set_of, set_of_option, val_set, row_of, bit_of, base_of, IsColumn, IsFor, IsSet, IsBases, IsCaptures, IsCapturesBut, HasRoom, caught_at}
-use Rattle.ms_alias.specs.Building.{IsBeyond, HaveColumns, IsAllocaOf, IsKeptAt, IsCountedAs, IsCountedAt, AreCounted, MarkOthers}
+use Rattle.ms_alias.specs.Roots.{pointer_of}
+use Rattle.ms_alias.specs.Bases.{Alloca as AllocaBase, Argument as ArgumentBase, Object as ObjectBase, HasBase, HasValBase}
+use Rattle.ms_alias.specs.Captured.{skips, IsCapturedBut, Differ}
+use Rattle.ms_alias.specs.Tables.{BasesState, set_of, set_of_option, val_set, base_of, IsColumn, IsFor, IsSet, IsBases, IsCaptures, IsCapturesBut, HasRoom, caught_at}
+use Rattle.ms_alias.specs.Building.{IsBeyond, HaveColumns, IsAllocaOf, AreCounted, MarkOthers}
 use Rattle.ms_alias.proofs.Reaching.{set_told}
 
 -- where no set is, no instruction makes the local

@@ -1,8 +1,8 @@
 -- Room for the bases of a function's pointers.
-use Rattle.std.proofs.Common.{◌≡◌, ◌<◌, ◌≤◌, ◌+◌, ◌⊎◌, ◌↔◌, ℕ, zero, suc, Bool, true, false, cond, ltb, List, [], ◌∷◌, ◌++◌, Option, Some, None, Result, Ok, Err, length, get_or, take, map, refl, sym, ap, ◌∙◌, subst, inl, inr, ⊎_elim, append_assoc, arith}
-use Rattle.std.specs.Prelude.{option_map, slice_get, position, Contains, OnOk, is_some}
-use Rattle.std.proofs.lemmas.Bool.{both_ways, cases_eq, cases_lt, cases_Bool, cond-true, lt-ltb, eq-eqb, false≢true}
-use Rattle.std.proofs.lemmas.Option.{slice_get_within, slice_get-get_or}
+use Rattle.std.proofs.Common.{◌≡◌, ◌<◌, ◌≤◌, ◌+◌, ℕ, zero, suc, Bool, true, false, cond, ltb, List, [], ◌∷◌, ◌++◌, Option, Some, None, length, get_or, take, map, refl, sym, ap, ◌∙◌, subst, ⊎_elim, append_assoc, arith}
+use Rattle.std.specs.Prelude.{option_map, slice_get, position, Contains, is_some}
+use Rattle.std.proofs.lemmas.Bool.{cases_eq, cases_lt, cases_Bool, cond-true, lt-ltb, false≢true}
+use Rattle.std.proofs.lemmas.Option.{slice_get_within}
 use Rattle.std.proofs.lemmas.List.{take_more, length-append, get_or_append_left, get_or_past}
 use Rattle.std.proofs.Math.Seq.{get_or-append_seam}
 use Rattle.std.proofs.lemmas.List.Quantifiers.{position-Some}
@@ -10,19 +10,18 @@ use Rattle.std.proofs.lemmas.List.Sums.{position_or_len_is}
 use Rattle.std.proofs.lemmas.List.Elements.{Contains-append_cases}
 use Rattle.ms_ir.specs.declared.names.LocalNo.{LocalNo}
 use Rattle.ms_ir.specs.declared.names.GlobalNo.{GlobalNo}
-use Rattle.ms_ir.specs.declared.names.Param.{Param}
 use Rattle.ms_ir.specs.declared.inst.Val.{Val}
 use Rattle.ms_ir.specs.declared.inst.Entry.{Entry}
 use Rattle.ms_ir.specs.declared.inst.Inst.{Inst}
-use Rattle.ms_ir.specs.Func.{Placed, FuncState}
+use Rattle.ms_ir.specs.Func.{FuncState}
 use Rattle.ms_ir.specs.Locals.{IsNumbered}
 use Rattle.ms_alias.specs.declared.loc.Root.{Root}
 use Rattle.ms_alias.specs.declared.loc.Root.TheVariants.{Local, Global}
 use Rattle.ms_alias.specs.declared.sets.Set.{Set}
 use Rattle.ms_alias.specs.declared.sets.Set.TheVariants.{Nothing, Argument, Alloca, Object, Brought}
 use Rattle.ms_alias.specs.Roots.{Maker, maker_of, is_alloca, pointer_of}
-use Rattle.ms_alias.specs.Bases.{IsArgument, pointers_in, sources_in, with_pointer, leads_of, leads_in}
-use Rattle.ms_alias.specs.Tables.{RowState, BasesState, no_row, set_of, row_of, same_root, global_column, IsFor, HasRoom}
+use Rattle.ms_alias.specs.Bases.{IsArgument, pointers_in, with_pointer, leads_of, leads_in}
+use Rattle.ms_alias.specs.Tables.{BasesState, set_of, row_of, same_root, global_column, IsFor, HasRoom}
 use Rattle.ms_alias.specs.Building.{AreKinds, HaveFirst, HaveGlobals, HaveRows, IsKindAt, IsKindIn, IsLonger, row_len, IsBeyond}
 use Rattle.ms_alias.proofs.Makers.{cases_Option, maker_in_blocks, giver_from}
 use Rattle.ms_alias.proofs.Reaching.{root_same}

@@ -1,17 +1,16 @@
 -- Roots of pointers.
-use Rattle.std.proofs.Common.{◌≡◌, ◌⊎◌, ℕ, zero, suc, ℤ, pos, ◌+ℤ◌, Bool, true, false, List, Option, Some, None, refl, sym, ap, ◌∙◌, subst, inl, inr, ⊎_elim}
-use Rattle.ms_ir.specs.declared.names.LocalNo.{LocalNo}
+use Rattle.std.proofs.Common.{◌≡◌, ℕ, zero, suc, ℤ, pos, ◌+ℤ◌, Bool, true, List, Option, Some, None, refl, sym, ap, ◌∙◌, subst, inl}
 use Rattle.ms_ir.specs.declared.names.GlobalNo.{GlobalNo}
 use Rattle.ms_ir.specs.declared.inst.Val.{Val}
 use Rattle.ms_ir.specs.declared.inst.Inst.{Inst}
-use Rattle.ms_ir.specs.declared.inst.Inst.TheVariants.{Alloca, Gep, Load, Store, Copy, Call, Bin, Cmp, Select, Cast, Phi}
+use Rattle.ms_ir.specs.declared.inst.Inst.TheVariants.{Load, Store, Copy, Call}
 use Rattle.ms_ir.specs.Func.{FuncState}
 use Rattle.ms_alias.specs.declared.loc.Root.{Root}
 use Rattle.ms_alias.specs.declared.loc.Root.TheVariants.{Local, Global}
 use Rattle.ms_alias.specs.declared.origins.Origin.{Origin}
-use Rattle.ms_alias.specs.Roots.{Step, step_of, pointer_of, IsEnd, IsRootAfter, HasRoot, IsTurning}
-use Rattle.ms_alias.specs.Reaches.{Reach, Span, Called, IsSpan, IsRead, IsWritten, size_of}
-use Rattle.ms_alias.specs.Tables.{origin_at, origin_of, origin_in, val_origin, span_at, read_reach, write_reach, is_turning, IsOrigins, IsTurnings}
+use Rattle.ms_alias.specs.Roots.{Step, pointer_of, IsRootAfter, HasRoot, IsTurning}
+use Rattle.ms_alias.specs.Reaches.{Reach, Span, IsSpan, IsRead, IsWritten, size_of}
+use Rattle.ms_alias.specs.Tables.{origin_of, origin_in, val_origin, span_at, read_reach, write_reach, is_turning, IsOrigins, IsTurnings}
 
 -- a pointer has one root
 pub root_once : (f : FuncState) (n m : ℕ) (p r s : Root) (a b : ℤ) → IsRootAfter f n p r a → IsRootAfter f m p s b → (r ≡ s) × (a ≡ b)

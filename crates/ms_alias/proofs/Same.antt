@@ -1,10 +1,10 @@
 -- Two functions that make the same pointers in the same graph have the same pointer tables.
-use Rattle.std.proofs.Common.{◌≡◌, ◌<◌, ◌⊎◌, ◌↔◌, ℕ, zero, suc, ℤ, Bool, true, false, List, Option, Some, None, refl, sym, ap, ◌∙◌, subst, inl, inr, ⊎_elim}
+use Rattle.std.proofs.Common.{◌≡◌, ℕ, zero, suc, ℤ, List, refl, sym, ap, ◌∙◌, subst, inl, inr}
 use Rattle.std.specs.Prelude.{slice_get, Contains}
 use Rattle.ms_ir.specs.declared.names.LocalNo.{LocalNo}
 use Rattle.ms_ir.specs.declared.names.Param.{Param}
 use Rattle.ms_ir.specs.declared.inst.Inst.{Inst}
-use Rattle.ms_ir.specs.Func.{Block, FuncState}
+use Rattle.ms_ir.specs.Func.{FuncState}
 use Rattle.ms_paths.specs.Flow.{Block as Run}
 use Rattle.ms_flow.specs.Table.{edges_of}
 use Rattle.ms_flow.specs.Flow.{IsOnCycle}
@@ -12,11 +12,11 @@ use Rattle.ms_alias.specs.declared.loc.Root.{Root}
 use Rattle.ms_alias.specs.declared.loc.Root.TheVariants.{Local, Global}
 use Rattle.ms_alias.specs.declared.sets.Set.{Set}
 use Rattle.ms_alias.specs.declared.sets.Set.TheVariants.{Nothing, Argument, Alloca, Object, Brought}
-use Rattle.ms_alias.specs.Roots.{Maker, Step, maker_of, step_of, step_by_maker, is_alloca, LeadsBack, IsRing, IsEnd, IsRootAfter, HasRoot, IsTurning}
-use Rattle.ms_alias.specs.Bases.{Base, Alloca as AllocaBase, Argument as ArgumentBase, Object as ObjectBase, HasBase, HasValBase, IsNamed, IsBrought, IsArgument, leads_of, leads_in}
+use Rattle.ms_alias.specs.Roots.{maker_of, step_of, step_by_maker, LeadsBack, IsEnd, IsRootAfter, IsTurning}
+use Rattle.ms_alias.specs.Bases.{Base, Alloca as AllocaBase, Argument as ArgumentBase, Object as ObjectBase, HasBase, IsNamed, IsBrought, IsArgument, leads_of, leads_in}
 use Rattle.ms_alias.specs.Captured.{IsKept}
 use Rattle.ms_alias.specs.Meeting.{IsOuter}
-use Rattle.ms_alias.specs.Tables.{AliasState, BasesState, RowState, row_of, set_of, base_of, HasOneBase, IsRow, IsSet, IsFor, HasRoom, HasPointers}
+use Rattle.ms_alias.specs.Tables.{AliasState, BasesState, RowState, row_of, set_of, base_of, HasOneBase, IsRow, IsSet, IsFor, HasPointers}
 
 pub record SamePointers (f g : FuncState) : Type 0 where
   pub makers : (l : LocalNo) → maker_of f l ≡ maker_of g l

@@ -1,20 +1,19 @@
 -- Roots, and offsets summed along getelementptrs.
-use Rattle.std.proofs.Common.{◌≡◌, ◌≢◌, ◌<◌, ◌≤◌, ◌+◌, ◌-◌, ◌*◌, ◌^◌, ◌⊎◌, ◌↔◌, ℕ, zero, suc, ℤ, pos, ◌+ℤ◌, Bool, true, false, List, Option, Some, None, length, get_or, set, refl, sym, ap, ◌∙◌, subst, inl, inr, ⊎_elim, get_or-set_other, get_or-set_same, arith}
+use Rattle.std.proofs.Common.{◌≡◌, ◌<◌, ◌+◌, ◌*◌, ◌^◌, ℕ, zero, suc, ℤ, pos, ◌+ℤ◌, Bool, true, false, List, Some, None, length, get_or, set, refl, sym, ap, ◌∙◌, subst, inl, inr, ⊎_elim, get_or-set_other, arith}
 use Rattle.std.proofs.Math.ListN.{replicate}
-use Rattle.std.specs.Prelude.{◌≤ℤ◌, ◌-ℤ◌}
-use Rattle.std.proofs.lemmas.Bool.{both_ways, cases_eq, cases_Bool}
+use Rattle.std.proofs.lemmas.Bool.{both_ways, cases_eq}
 use Rattle.std.proofs.lemmas.Int.{ints}
 use Rattle.std.proofs.lemmas.List.{length-set, length-replicate}
 use mir.Syntax.{w64}
 use mir.Val.{SFits}
 use Rattle.ms_flow.specs.Walk.{unseen}
-use Rattle.ms_flow.proofs.Steps.{unseen-set, unseen_le}
+use Rattle.ms_flow.proofs.Steps.{unseen-set}
 use Rattle.ms_ir.specs.declared.names.LocalNo.{LocalNo}
 use Rattle.ms_ir.specs.declared.names.GlobalNo.{GlobalNo}
 use Rattle.ms_ir.specs.Func.{FuncState}
 use Rattle.ms_alias.specs.declared.loc.Root.{Root}
 use Rattle.ms_alias.specs.declared.loc.Root.TheVariants.{Local, Global}
-use Rattle.ms_alias.specs.Roots.{Step, step_of, step_by_maker, maker_of, LeadsBack, IsRing, IsEnd, IsRootAfter, HasRoot}
+use Rattle.ms_alias.specs.Roots.{Step, step_of, LeadsBack, IsRing, IsEnd, HasRoot}
 use Rattle.ms_alias.specs.Building.{AreRings}
 use Rattle.ms_alias.specs.Offsets.{IsNear, greatest_offset}
 use Rattle.ms_alias.proofs.Rings.{local, leads_more, get_or-replicate}

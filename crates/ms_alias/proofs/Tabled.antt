@@ -1,21 +1,19 @@
 -- Tables by local, filled in the order of the numbers.
-use Rattle.std.proofs.Common.{◌≡◌, ◌<◌, ◌≤◌, ◌+◌, ◌⊎◌, ◌↔◌, ℕ, zero, suc, ℤ, pos, Bool, true, false, cond, List, [], ◌∷◌, ◌++◌, Option, Some, None, length, get_or, set, refl, sym, ap, ◌∙◌, subst, inl, inr, ⊎_elim, get_or-set_other, get_or-set_same, arith}
-use Rattle.std.specs.Prelude.{option_map, slice_get, slice_index_or}
-use Rattle.std.proofs.lemmas.Bool.{both_ways, cases_eq, cases_lt, false≢true, cases_Bool, cond-true, cond-false}
-use Rattle.std.proofs.lemmas.List.{length-set, get_or_past, get_or_append_left}
+use Rattle.std.proofs.Common.{◌≡◌, ◌<◌, ◌≤◌, ◌+◌, ◌↔◌, ℕ, zero, suc, pos, Bool, true, false, List, [], ◌∷◌, ◌++◌, Option, Some, None, length, get_or, set, refl, sym, ap, ◌∙◌, subst, inl, ⊎_elim, get_or-set_other, get_or-set_same, arith}
+use Rattle.std.proofs.lemmas.Bool.{both_ways, cases_eq, cases_lt, cases_Bool, cond-true, cond-false}
+use Rattle.std.proofs.lemmas.List.{get_or_past, get_or_append_left}
 use Rattle.std.proofs.Math.Seq.{get_or-append_seam}
 use Rattle.ms_flow.specs.Table.{edges_of}
 use Rattle.ms_flow.specs.Flow.{IsOnCycle}
 use Rattle.ms_ir.specs.declared.names.LocalNo.{LocalNo}
-use Rattle.ms_ir.specs.Func.{Block, FuncState, insts_at}
+use Rattle.ms_ir.specs.Func.{Block, FuncState}
 use Rattle.ms_ir.proofs.FuncLemmas.{block_there}
-use Rattle.ms_alias.specs.declared.loc.Root.{Root}
-use Rattle.ms_alias.specs.declared.loc.Root.TheVariants.{Local, Global}
+use Rattle.ms_alias.specs.declared.loc.Root.TheVariants.{Local}
 use Rattle.ms_alias.specs.declared.origins.Origin.{Origin}
-use Rattle.ms_alias.specs.Roots.{Maker, maker_of, step_of, step_by_maker, is_alloca, moving_block, IsRing, IsEnd, HasRoot, IsTurning}
+use Rattle.ms_alias.specs.Roots.{Maker, maker_of, step_by_maker, is_alloca, moving_block, IsRing, HasRoot, IsTurning}
 use Rattle.ms_alias.specs.Building.{IsBeyond, AreRings}
 use Rattle.ms_alias.specs.Tables.{origin_at, own_origin, IsOrigins, IsTurnings}
-use Rattle.ms_alias.proofs.Makers.{cases_Option, maker_in_blocks}
+use Rattle.ms_alias.proofs.Makers.{maker_in_blocks}
 use Rattle.ms_alias.proofs.Rings.{local}
 
 -- one more mark says what holds of its local

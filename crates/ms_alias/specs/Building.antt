@@ -1,5 +1,5 @@
 -- What the tables are made from.
-use Rattle.std.specs.Prelude.{◌≡◌, ◌≢◌, ◌≤◌, ◌↔◌, ◌≤ℤ◌, ◌-ℤ◌, ◌+◌, ◌++◌, ℕ, ℤ, pos, Bool, true, false, if◌then◌else◌, List, [], ◌∷◌, length, Option, Some, None, slice_index_or, slice_set, nat_lt, replicate, ◌<◌, ◌⊎◌, ◌==◌, slice_get, Contains, position}
+use Rattle.std.specs.Prelude.{◌≡◌, ◌≢◌, ◌≤◌, ◌↔◌, ◌++◌, ℕ, Bool, true, false, if◌then◌else◌, List, [], ◌∷◌, length, Option, Some, None, slice_index_or, slice_set, nat_lt, replicate, ◌<◌, ◌⊎◌, slice_get, Contains, position}
 use Rattle.ms_ir.specs.declared.names.LocalNo.{LocalNo}
 use Rattle.ms_ir.specs.declared.names.InstNo.{InstNo}
 use Rattle.ms_ir.specs.declared.names.GlobalNo.{GlobalNo}
@@ -10,7 +10,7 @@ use Rattle.ms_alias.specs.declared.loc.Root.{Root}
 use Rattle.ms_alias.specs.declared.loc.Root.TheVariants.{Local, Global}
 use Rattle.ms_alias.specs.declared.sets.Set.{Set}
 use Rattle.ms_alias.specs.declared.sets.Set.TheVariants.{Nothing, Argument, Alloca, Object, Brought}
-use Rattle.ms_alias.specs.Roots.{Maker, Step, is_alloca, maker_of, step_by_maker, IsRing}
+use Rattle.ms_alias.specs.Roots.{Maker, Step, is_alloca, maker_of, IsRing}
 use Rattle.ms_alias.specs.Bases.{leads_of, IsArgument}
 use Rattle.ms_alias.specs.Tables.{RowState, no_row, same_root, BasesState, set_of, global_column, row_of, bit_of, val_set, caught_at}
 

@@ -1,10 +1,9 @@
 -- The tables of a function's pointers, and what is to be read from them.
-use Rattle.std.specs.Prelude.{◌≡◌, ◌<◌, ◌≤◌, ◌==◌, ◌&&◌, ◌||◌, ◌⊎◌, ◌↔◌, ◌+ℤ◌, ℕ, ℤ, pos, int_lt, int_le, nat_lt, not, Bool, true, false, if◌then◌else◌, List, [], ◌∷◌, length, map, position, Option, Some, None, slice_get, slice_index_or, Contains}
+use Rattle.std.specs.Prelude.{◌≡◌, ◌==◌, ◌&&◌, ◌||◌, ◌↔◌, ◌+ℤ◌, ℕ, ℤ, pos, int_lt, int_le, nat_lt, not, Bool, true, false, if◌then◌else◌, List, [], ◌∷◌, length, position, Option, Some, None, slice_get, slice_index_or, Contains}
 use Rattle.ms_ir.specs.declared.names.LocalNo.{LocalNo}
 use Rattle.ms_ir.specs.declared.names.GlobalNo.{GlobalNo}
 use Rattle.ms_ir.specs.declared.names.InstNo.{InstNo}
 use Rattle.std.specs.List.{list_any}
-use Rattle.ms_ir.specs.declared.names.Ty.{Ty}
 use Rattle.ms_ir.specs.declared.inst.Val.{Val}
 use Rattle.ms_ir.specs.declared.inst.Arg.{Arg}
 use Rattle.ms_ir.specs.declared.inst.Inst.{Inst}
@@ -22,7 +21,7 @@ use Rattle.ms_alias.specs.declared.origins.Origin.{Origin}
 use Rattle.ms_alias.specs.Roots.{Maker, maker_of, is_alloca, pointer_of, HasRoot, IsTurning}
 use Rattle.ms_alias.specs.Bases.{Base, Alloca as AllocaBase, Argument as ArgumentBase, Object as ObjectBase, HasBase, IsArgument, leads_of}
 use Rattle.ms_alias.specs.Captured.{IsCaptured, IsCapturedBut}
-use Rattle.ms_alias.specs.Reaches.{Reach, Span, Called, size_of, IsReachOf}
+use Rattle.ms_alias.specs.Reaches.{Reach, Span, Called, size_of}
 use Rattle.ms_alias.specs.Meeting.{IsOuter}
 
 -- the bases of a pointer: a mark for each column, whether one is an argument, and whether one is no alloca

@@ -1,5 +1,5 @@
 use Rattle.std.proofs.Common.{◌∙◌, sym}
-use Rattle.ms_alias.proofs.Counting.{val_columns, adds_none}
+use Rattle.ms_alias.proofs.Counting.{val_columns}
 use Rattle.ms_alias.proofs.captures.add_arg.Goals as goal
 
 pub add_set-requires-clause-columns : goal.add_set-requires-clause-columns

@@ -1,5 +1,5 @@
 use Rattle.ms_alias.specs.Building.{IsCountedAs}
-use Rattle.ms_alias.proofs.Counting.{adds_none, nowhere_counted, adds_number}
+use Rattle.ms_alias.proofs.Counting.{adds_none, nowhere_counted}
 use Rattle.ms_alias.proofs.captures.add_number.Goals as goal
 
 pub returns-in_default : goal.returns-in_default

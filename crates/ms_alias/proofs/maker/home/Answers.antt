@@ -1,4 +1,4 @@
-use Rattle.std.proofs.Common.{◌≡◌, ℕ, Some, sym, ap, ◌∙◌}
+use Rattle.std.proofs.Common.{Some, sym, ap, ◌∙◌}
 use Rattle.ms_alias.proofs.Makers.{home_none, home_still, home_moving, not_nowhere, moves}
 use Rattle.ms_alias.proofs.maker.home.Goals as goal
 

@@ -1,9 +1,9 @@
-use Rattle.std.proofs.Common.{◌≡◌, ◌<◌, false, Some, length, set, sym, ap, ◌∙◌, subst, arith}
+use Rattle.std.proofs.Common.{◌≡◌, ◌<◌, false, length, sym, ap, ◌∙◌, subst, arith}
 use Rattle.std.proofs.lemmas.List.{length-replicate, length-set}
 use Rattle.std.proofs.lemmas.Bool.{both_ways}
 use Rattle.ms_flow.proofs.Steps.{unseen-set}
 use Rattle.ms_alias.specs.Building.{IsBeyond}
-use Rattle.ms_alias.proofs.Rings.{IsTrail, next_in, next_step, trail_begun, trail_more, ends_without, ends_met, ends_back}
+use Rattle.ms_alias.proofs.Rings.{next_step, trail_begun, trail_more, ends_without, ends_met, ends_back}
 use Rattle.ms_alias.specs.Roots.{step_of}
 use Rattle.ms_alias.proofs.Rings.{local}
 use Rattle.ms_alias.proofs.origins.comes_back.Goals as goal

@@ -1,13 +1,13 @@
-use Rattle.std.proofs.Common.{◌≡◌, ◌<◌, ◌+ℤ◌, refl, false, Some, length, inl, inr, sym, ap, ◌∙◌, subst, arith}
+use Rattle.std.proofs.Common.{◌≡◌, ◌<◌, ◌+ℤ◌, false, Some, length, inl, inr, sym, ap, ◌∙◌, arith}
 use Rattle.std.specs.Prelude.{option_map}
-use Rattle.std.proofs.lemmas.Int.{ints, to_z-of_z}
+use Rattle.std.proofs.lemmas.Int.{to_z-of_z}
 use Rattle.std.proofs.lemmas.List.{length-replicate, length-set}
 use mir.Syntax.{w64}
 use mir.Val.{SFits, to_z}
 use Rattle.ms_flow.proofs.Steps.{unseen-set}
 use Rattle.ms_alias.specs.declared.loc.Root.TheVariants.{Local}
-use Rattle.ms_alias.specs.Roots.{pair_step, step_of, IsEnd, step_by_maker}
-use Rattle.ms_alias.proofs.Sums.{IsOnWay, way_begun, way_ends, way_more, way_fits, near_fits, not_ring, way_at, global_end}
+use Rattle.ms_alias.specs.Roots.{pair_step, step_of, step_by_maker}
+use Rattle.ms_alias.proofs.Sums.{way_begun, way_ends, way_more, way_fits, near_fits, not_ring, way_at, global_end}
 use Rattle.ms_alias.proofs.origins.find_origin.Goals as goal
 use Rattle.ms_alias.proofs.origins.find_origin.Goals.{then-m-len-via-then-m-len, then-m-len-via-else-m-len+then-has}
 

@@ -1,4 +1,4 @@
-use Rattle.std.proofs.Common.{◌≡◌, ◌<◌, length}
+use Rattle.std.proofs.Common.{◌≡◌, length}
 use Rattle.ms_flow.specs.Walk.{unseen}
 use Rattle.ms_alias.proofs.Sums.{IsOnWay}
 use Rattle.ms_alias.proofs.origins.find_origin.Given as goal

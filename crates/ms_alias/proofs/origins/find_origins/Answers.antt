@@ -1,4 +1,4 @@
-use Rattle.std.proofs.Common.{◌≡◌, ◌<◌, length, sym, ap, ◌∙◌, subst, arith}
+use Rattle.std.proofs.Common.{◌≡◌, ◌<◌, length, ◌∙◌, subst, arith}
 use Rattle.ms_alias.specs.Building.{IsBeyond}
 use Rattle.ms_alias.proofs.Tabled.{origins_more, origins_all}
 use Rattle.ms_alias.proofs.origins.find_origins.Goals as goal

@@ -1,4 +1,4 @@
-use Rattle.std.proofs.Common.{◌<◌, arith}
+use Rattle.std.proofs.Common.{arith}
 use Rattle.ms_alias.proofs.Rooms.{have_first, longer_on}
 use Rattle.ms_alias.proofs.room.add_locals.Goals as goal
 

@@ -1,5 +1,4 @@
-use Rattle.std.proofs.Common.{◌≡◌, length, sym, ap, ◌∙◌, subst, arith}
-use Rattle.ms_alias.specs.Building.{AreKinds}
+use Rattle.std.proofs.Common.{arith}
 use Rattle.ms_alias.proofs.Rooms.{kinds_plain, kinds_alloca}
 use Rattle.ms_alias.proofs.room.find_sets.Goals as goal
 use Rattle.ms_alias.proofs.room.find_sets.Goals.{in-Alloca+in_ok-push, in_default}

@@ -1,6 +1,6 @@
-use Rattle.std.proofs.Common.{◌≡◌, ◌<◌, length, sym, ap, ◌∙◌, subst, arith}
+use Rattle.std.proofs.Common.{length, sym, ap, ◌∙◌, arith}
 use Rattle.ms_alias.specs.Tables.{BasesState}
-use Rattle.ms_alias.proofs.Filled.{AreFilled, filled_none, filled_more, filled_skip, filled_room, filled_all, row_there}
+use Rattle.ms_alias.proofs.Filled.{filled_more, filled_skip, filled_room, filled_all, row_there}
 use Rattle.ms_alias.proofs.rows.fill_rows.Goals as goal
 use Rattle.ms_alias.proofs.rows.fill_rows.Goals.{in-Brought, in_default}
 

@@ -1,6 +1,5 @@
-use Rattle.std.proofs.Common.{◌≡◌, ◌<◌, false, length, drop, sym, ap, ◌∙◌, arith}
-use Rattle.ms_alias.specs.Tables.{share_mark}
-use Rattle.ms_alias.proofs.Shared.{share_past, share_step, share_true, share_false}
+use Rattle.std.proofs.Common.{sym, ◌∙◌, arith}
+use Rattle.ms_alias.proofs.Shared.{share_past, share_true, share_false}
 use Rattle.ms_alias.proofs.sets.share_mark.Goals as goal
 
 pub returns-then-k-ys : goal.returns-then-k-ys

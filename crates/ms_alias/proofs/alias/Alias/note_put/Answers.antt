@@ -1,4 +1,4 @@
-use Rattle.std.proofs.Common.{None, List, Bool, sym, subst}
+use Rattle.std.proofs.Common.{List, Bool, sym, subst}
 use Rattle.ms_alias.specs.Captured.{IsCaptured}
 use Rattle.ms_alias.specs.Tables.{HasPointers, IsAliasOf, IsCaptures}
 use Rattle.ms_alias.proofs.Renewed.{room_columns, counted_captures, marks_differ}

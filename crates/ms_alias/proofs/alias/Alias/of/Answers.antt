@@ -1,4 +1,4 @@
-use Rattle.std.proofs.Common.{◌≡◌, length, sym, ◌∙◌, subst, arith}
+use Rattle.std.proofs.Common.{sym, subst, arith}
 use Rattle.ms_alias.specs.Building.{IsBeyond}
 use Rattle.ms_alias.proofs.Renewed.{room_beyond}
 use Rattle.ms_alias.proofs.alias.Alias.of.Goals as goal

@@ -1,4 +1,4 @@
-use Rattle.std.proofs.Common.{◌≡◌, length, sym, subst}
+use Rattle.std.proofs.Common.{sym, subst}
 use Rattle.ms_alias.specs.Tables.{AliasState, HasRoom, IsOrigins}
 use Rattle.ms_alias.specs.Building.{IsBeyond}
 use Rattle.ms_alias.proofs.Renewed.{room_beyond, room_columns, counted_captures}

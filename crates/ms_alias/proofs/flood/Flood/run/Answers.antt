@@ -1,6 +1,6 @@
-use Rattle.std.proofs.Common.{◌≡◌, ◌<◌, ◌++◌, ◌∷◌, [], List, ℕ, None, length, sym, ap, ◌∙◌, subst, arith}
+use Rattle.std.proofs.Common.{◌≡◌, ◌++◌, ◌∷◌, [], List, ℕ, None, length, sym, ap, ◌∙◌, subst, arith}
 use Rattle.std.proofs.lemmas.List.{length-append}
-use Rattle.ms_alias.specs.Tables.{RowState, IsRow}
+use Rattle.ms_alias.specs.Tables.{IsRow}
 use Rattle.ms_alias.specs.Building.{FloodState, flood_begun, met}
 use Rattle.ms_alias.proofs.Rings.{local}
 use Rattle.ms_alias.proofs.Floods.{IsFlood, work, flood_row, flood_next, flood_visited, flood_starts, work_visited}
