@@ -11,6 +11,8 @@ mod functions;
 #[cfg(test)]
 mod limits;
 #[cfg(test)]
+mod meets;
+#[cfg(test)]
 mod refusals;
 #[cfg(test)]
 mod row;
