@@ -13,5 +13,6 @@ pub mod Rooms
 pub mod Filled
 pub mod Renewed
 pub mod Locations
+pub mod Asked
 pub mod Edits
 pub mod Same

@@ -19,11 +19,11 @@ use Rattle.ms_alias.specs.declared.sets.Set.TheVariants.{Alloca}
 use Rattle.ms_alias.specs.Roots.{pointer_of, HasRoot, IsFixed}
 use Rattle.ms_alias.specs.Captured.{IsCaptured}
 use Rattle.ms_alias.specs.Reaches.{Reach, Span, Called, size_of, IsReachOf, IsWritten, IsLocRead, IsLocWritten, ReadsLoc, WritesLoc}
-use Rattle.ms_alias.specs.Meeting.{HoldsByte, MayWrite, MayRead, MustWrite}
-use Rattle.ms_alias.specs.Tables.{AliasState, same_root, set_of, is_turning, origin_of, origin_in, val_origin, bytes_at, read_loc, written_loc, read_reach, write_reach, meet_in, holds_byte, must_hold, caught_at, IsReadBy, IsWrittenBy, IsReachBy, IsOrigins, IsAliasOf, IsFor}
+use Rattle.ms_alias.specs.Meeting.{HoldsByte, MustWrite}
+use Rattle.ms_alias.specs.Tables.{AliasState, same_root, set_of, is_turning, origin_of, origin_in, val_origin, bytes_at, read_loc, written_loc, read_reach, write_reach, holds_byte, must_hold, caught_at, IsReadBy, IsWrittenBy, IsReachBy, IsOrigins, IsAliasOf, IsFor}
 use Rattle.ms_alias.proofs.Makers.{not_nowhere}
 use Rattle.ms_alias.proofs.RootLemmas.{one_root, origin_told, turning_from, turning_to, read_from, read_to, written_from, written_to}
-use Rattle.ms_alias.proofs.Reaching.{reaches_from, reaches_to, root_is, root_same}
+use Rattle.ms_alias.proofs.Reaching.{root_is, root_same}
 
 abbrev pub Somewhere : List Block → ℕ → (Placed → Type 0) → Type 0
 Somewhere blocks n P = (b : ℕ) × (place : ℕ) × (x : Placed) × IsAt blocks n b place x × P x
@@ -115,42 +115,6 @@ reach_from f origins (ReadBy j) u is h = (h.0, h.1, h.2, h.3, read_from f origin
 pub reach_to : (f : FuncState) (origins : List Origin) (loc : Loc) (u : Reach) → IsOrigins f origins → IsReachOf f loc u → IsReachBy f origins loc u
 reach_to f origins (Bytes root from len) u is h = h
 reach_to f origins (ReadBy j) u is h = (h.0, h.1, h.2, h.3, read_to f origins h.2.inst u is h.4)
-
-write_from : (f : FuncState) (a : AliasState) → IsAliasOf f a → (i : ℕ) (loc : Loc) (ou ov : Option Reach) → ((u : Reach) → (ou ≡ Some u) ↔ IsWrittenBy f a.origins i u) → ((v : Reach) → (ov ≡ Some v) ↔ IsReachBy f a.origins loc v)
-    → meet_in a ou ov ≡ true → MayWrite f i loc
-write_from f a is i loc None ov hu hv e = absurd (false≢true e)
-write_from f a is i loc (Some u) None hu hv e = absurd (false≢true e)
-write_from f a is i loc (Some u) (Some v) hu hv e =
-    let w = (hu u).0 refl in
-    (w.0, w.1, w.2, w.3, u, v, written_from f a.origins w.2.inst u is.origins w.4, reach_from f a.origins loc v is.origins ((hv v).0 refl), reaches_from f a is u v e)
-
-read_from_test : (f : FuncState) (a : AliasState) → IsAliasOf f a → (i : ℕ) (loc : Loc) (ou ov : Option Reach) → ((u : Reach) → (ou ≡ Some u) ↔ IsReadBy f a.origins i u) → ((v : Reach) → (ov ≡ Some v) ↔ IsReachBy f a.origins loc v)
-    → meet_in a ou ov ≡ true → MayRead f i loc
-read_from_test f a is i loc None ov hu hv e = absurd (false≢true e)
-read_from_test f a is i loc (Some u) None hu hv e = absurd (false≢true e)
-read_from_test f a is i loc (Some u) (Some v) hu hv e =
-    let w = (hu u).0 refl in
-    (w.0, w.1, w.2, w.3, u, v, read_from f a.origins w.2.inst u is.origins w.4, reach_from f a.origins loc v is.origins ((hv v).0 refl), reaches_from f a is u v e)
-
-pub may_write_told : (f : FuncState) (a : AliasState) → IsAliasOf f a → (i : ℕ) (loc : Loc) (ou ov : Option Reach) → ((u : Reach) → (ou ≡ Some u) ↔ IsWrittenBy f a.origins i u) → ((v : Reach) → (ov ≡ Some v) ↔ IsReachBy f a.origins loc v)
-    → (r : Bool) → r ≡ meet_in a ou ov → (r ≡ true) ↔ MayWrite f i loc
-may_write_told f a is i loc ou ov hu hv r e = (
-  λ t. write_from f a is i loc ou ov hu hv (sym e ∙ t),
-  λ h.
-      let u = (hu h.4).1 (h.0, h.1, h.2, h.3, written_to f a.origins h.2.inst h.4 is.origins h.6) in
-      let v = (hv h.5).1 (reach_to f a.origins loc h.5 is.origins h.7) in
-      e ∙ ap (λ x. meet_in a x ov) u ∙ ap (meet_in a (Some h.4)) v ∙ reaches_to f a is h.4 h.5 h.8,
-)
-
-pub may_read_told : (f : FuncState) (a : AliasState) → IsAliasOf f a → (i : ℕ) (loc : Loc) (ou ov : Option Reach) → ((u : Reach) → (ou ≡ Some u) ↔ IsReadBy f a.origins i u) → ((v : Reach) → (ov ≡ Some v) ↔ IsReachBy f a.origins loc v)
-    → (r : Bool) → r ≡ meet_in a ou ov → (r ≡ true) ↔ MayRead f i loc
-may_read_told f a is i loc ou ov hu hv r e = (
-  λ t. read_from_test f a is i loc ou ov hu hv (sym e ∙ t),
-  λ h.
-      let u = (hu h.4).1 (h.0, h.1, h.2, h.3, read_to f a.origins h.2.inst h.4 is.origins h.6) in
-      let v = (hv h.5).1 (reach_to f a.origins loc h.5 is.origins h.7) in
-      e ∙ ap (λ x. meet_in a x ov) u ∙ ap (meet_in a (Some h.4)) v ∙ reaches_to f a is h.4 h.5 h.8,
-)
 
 holds_from : (from : ℤ) (len : ℕ) (k : ℤ) → holds_byte from len k ≡ true → HoldsByte from len k
 holds_from from len k e =

@@ -4,5 +4,6 @@ pub mod Meeting
 pub mod Reaches
 pub mod Roots
 pub mod Tables
+pub mod Tests
 pub mod Building
 pub mod Offsets

@@ -89,6 +89,7 @@ impl Alias {
     ghost use Rattle.ms_alias.specs.Captured.{Differ, IsCaptured, IsCapturedBut};
     ghost use Rattle.ms_alias.specs.Reaches.{Reach, ReadsLoc, WritesLoc};
     ghost use Rattle.ms_alias.specs.Meeting.{MayWrite, MayRead, MustWrite, IsOuter};
+    ghost use Rattle.ms_alias.specs.Tests.{may_write_by, may_read_by};
     ghost use Rattle.ms_alias.specs.Tables.{AliasState, IsAliasOf, IsReady, HasPointers, IsCapturesBut, origin_of, val_origin, is_turning, val_set, sets_meet, is_known, args_meet, call_meets, call_meets_args, are_known, calls_meet, spans_meet, reaches_meet, reach_of, reach_in, read_reach, write_reach, IsReachBy, IsReadBy, IsWrittenBy, span_at, meet_in, must_hold, bytes_at, read_loc, written_loc, caught_at, set_of, has_outer};
 
     /// The pointers of a function. It takes all the memory that each other call needs. `Err` comes only where memory is wanting,
@@ -403,18 +404,18 @@ impl Alias {
         }
     }
 
-    /// Whether what an instruction writes meets a location.
+    /// Whether what an instruction writes meets a location. The answer is that of a test over the tables, so that a search can name it.
     pub fn may_write(&self, func: &Func, i: InstNo, loc: &Loc) -> bool
-        requires { IsAliasOf func.now self.now }
-        ensures { IsTrue result ↔ MayWrite func.now i.0 loc.now }
+        ensures test { result ≡ may_write_by func.now self.now loc.now i.0 }
+        ensures told { IsAliasOf func.now self.now → (IsTrue result ↔ MayWrite func.now i.0 loc.now) }
     {
         self.meet_in(&self.write_at(func, i), &self.loc_touch(func, loc))
     }
 
-    /// Whether what an instruction reads meets a location.
+    /// Whether what an instruction reads meets a location. The answer is that of a test over the tables, so that a search can name it.
     pub fn may_read(&self, func: &Func, i: InstNo, loc: &Loc) -> bool
-        requires { IsAliasOf func.now self.now }
-        ensures { IsTrue result ↔ MayRead func.now i.0 loc.now }
+        ensures test { result ≡ may_read_by func.now self.now loc.now i.0 }
+        ensures told { IsAliasOf func.now self.now → (IsTrue result ↔ MayRead func.now i.0 loc.now) }
     {
         self.meet_in(&self.read_at(func, i), &self.loc_touch(func, loc))
     }

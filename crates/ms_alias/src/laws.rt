@@ -1,5 +1,5 @@
 // Laws of pointers, each the contract of a function that does nothing.
-ghost use Rattle.std.specs.Prelude.{◌≡◌, ◌↔◌, ℕ, Bool, IsTrue, Some, false};
+ghost use Rattle.std.specs.Prelude.{◌≡◌, ◌↔◌, ℕ, IsTrue, Some, false};
 ghost use Rattle.ms_ir.specs.declared.names.InstNo.{InstNo};
 ghost use Rattle.ms_ir.specs.declared.names.Name.{Name};
 ghost use Rattle.ms_ir.specs.declared.inst.Inst.{Inst};
@@ -9,13 +9,14 @@ ghost use Rattle.ms_alias.specs.declared.loc.Loc.{Loc};
 ghost use Rattle.ms_alias.specs.Roots.{makes_pointer};
 ghost use Rattle.ms_alias.specs.Reaches.{ReadsLoc, WritesLoc};
 ghost use Rattle.ms_alias.specs.Meeting.{MayWrite, MayRead};
+ghost use Rattle.ms_alias.specs.Tests.{may_write_by, may_read_by};
 ghost use Rattle.ms_alias.specs.Tables.{AliasState, HasPointers, IsAliasOf, IsCapturesBut};
 
-/// Where there are tables of a function, there is a test for which of its instructions may write a location, and for which may
-/// read it.
+/// The tests over the tables of a function hold of exactly the instructions that may write a location, and of those that may read
+/// it.
 pub fn tests_told()
-    ensures writes { (f : FuncState) (a : AliasState) → IsAliasOf f a → (loc : Loc) → (t : ℕ → Bool) × ((i : ℕ) → IsTrue (t i) ↔ MayWrite f i loc) }
-    ensures reads { (f : FuncState) (a : AliasState) → IsAliasOf f a → (loc : Loc) → (t : ℕ → Bool) × ((i : ℕ) → IsTrue (t i) ↔ MayRead f i loc) }
+    ensures writes { (f : FuncState) (a : AliasState) → IsAliasOf f a → (loc : Loc) (i : ℕ) → IsTrue (may_write_by f a loc i) ↔ MayWrite f i loc }
+    ensures reads { (f : FuncState) (a : AliasState) → IsAliasOf f a → (loc : Loc) (i : ℕ) → IsTrue (may_read_by f a loc i) ↔ MayRead f i loc }
 {}
 
 /// An instruction reads one location at most, and a store or memcpy writes the bytes of one at most.

@@ -1,6 +1,13 @@
+use Rattle.std.proofs.Common.{◌≡◌, ◌↔◌, Bool, true, sym, subst}
+use Rattle.ms_alias.specs.Meeting.{MayRead}
 use Rattle.ms_alias.specs.Tables.{reach_in}
-use Rattle.ms_alias.proofs.Queries.{may_read_told}
+use Rattle.ms_alias.proofs.Asked.{read_tested, read_told}
 use Rattle.ms_alias.proofs.alias.Alias.may_read.Goals as goal
 
-pub returns : goal.returns
-returns c = may_read_told c.args.func.now c.args.self.now c.requires c.args.i.0 c.args.loc.now (reach_in c.read_at.result) (reach_in c.loc_touch.result) c.read_at.ensures c.loc_touch.ensures c.meet_in.result c.meet_in.ensures
+pub returns-clause-test : goal.returns-clause-test
+returns-clause-test c =
+    read_tested c.args.func.now c.args.self.now c.args.i.0 c.args.loc.now (reach_in c.read_at.result) (reach_in c.loc_touch.result) c.read_at.ensures c.loc_touch.ensures c.meet_in.result c.meet_in.ensures
+
+pub returns-clause-told : goal.returns-clause-told
+returns-clause-told c =
+    λ is. subst (λ (b : Bool). (b ≡ true) ↔ MayRead c.args.func.now c.args.i.0 c.args.loc.now) (sym (returns-clause-test c)) (read_told c.args.func.now c.args.self.now is c.args.loc.now c.args.i.0)
