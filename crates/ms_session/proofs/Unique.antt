@@ -15,7 +15,7 @@ use Rattle.ms_print.specs.Text.{note_at, insts_text, blocks_text, func_text}
 use Rattle.ms_session.specs.Annotated.{IsAnnotated, IsUse, IsInstLine, numbered_from, note_of, phi_note}
 use Rattle.ms_alias.specs.declared.loc.Loc.{Loc}
 use Rattle.ms_walk.specs.Clobber.{IsClobberAt}
-use Rattle.ms_walk.proofs.Roots.{read_once}
+use Rattle.ms_alias.proofs.Locations.{read_once}
 use Rattle.ms_walk.proofs.Once.{clobber_once}
 use Rattle.ms_ir.specs.declared.inst.Kind.{Kind}
 use Rattle.ms_ir.specs.declared.inst.Kind.TheVariants.{Def, Reads, Neither}

@@ -1,5 +1,3 @@
 pub mod Writing
 pub mod Once
-pub mod Roots
-pub mod Marks
 pub mod Spare

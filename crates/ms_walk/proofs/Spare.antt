@@ -1,24 +1,23 @@
 -- How much room a function has does not change what its instructions may touch.
-use Rattle.std.proofs.Common.{◌≡◌, ◌⊎◌, inl, inr, ⊎_elim, ◌↔◌, ◌<◌, ℕ, zero, suc, ℤ, List, Option, Some, None, true, refl, sym, ap, ◌∙◌, subst}
-use Rattle.std.specs.Prelude.{Contains, IsTrue}
+use Rattle.std.proofs.Common.{◌≡◌, inl, inr, ℕ, zero, suc, ℤ, List, refl, sym, ◌∙◌, subst}
+use Rattle.std.specs.Prelude.{Contains}
 use Rattle.ms_paths.specs.Flow.{Event}
 use Rattle.ms_ir.specs.declared.names.LocalNo.{LocalNo}
 use Rattle.ms_ir.specs.declared.names.InstNo.{InstNo}
 use Rattle.ms_ir.specs.declared.inst.Val.{Val}
-use Rattle.ms_ir.specs.declared.inst.Arg.{Arg}
 use Rattle.ms_ir.specs.declared.inst.Inst.{Inst}
 use Rattle.ms_ir.specs.declared.inst.Inst.TheVariants as inst
-use Rattle.ms_ir.specs.Func.{Placed, FuncState, IsAt}
+use Rattle.ms_ir.specs.Func.{FuncState}
 use Rattle.ms_alias.specs.declared.loc.Root.{Root}
 use Rattle.ms_alias.specs.declared.loc.Root.TheVariants.{Local, Global}
 use Rattle.ms_alias.specs.declared.loc.Loc.{Loc}
 use Rattle.ms_alias.specs.declared.loc.Loc.TheVariants.{Bytes, ReadBy}
-use Rattle.ms_alias.specs.Roots.{Step, step_of, LeadsBack, IsRing, IsEnd, IsRootAfter, HasRoot, IsTurning, IsFixed}
+use Rattle.ms_alias.specs.Roots.{step_of, LeadsBack, IsEnd, IsRootAfter, HasRoot, IsTurning}
 use Rattle.ms_alias.specs.Bases.{Base, Alloca, Argument, Object, Outside, Hidden, leads_of, IsBrought, IsNamed, HasBase, HasValBase}
-use Rattle.ms_alias.specs.Captured.{IsKept, IsCaptured}
+use Rattle.ms_alias.specs.Captured.{IsCaptured}
 use Rattle.ms_alias.specs.Reaches.{Reach, Span, Called, IsSpan, IsRead, IsWritten, IsReachOf, IsKnown, IsReached, IsLocRead}
-use Rattle.ms_alias.specs.Meeting.{HaveOneRoot, ShareByte, HasLength, ShareBase, Meet, MayWrite}
-use Rattle.ms_walk.specs.Clobber.{AreWriters, IsClobberAt}
+use Rattle.ms_alias.specs.Meeting.{HaveOneRoot, Meet, MayWrite}
+use Rattle.ms_walk.specs.Clobber.{IsClobberAt}
 
 -- the function with another room
 abbrev pub with_spare : ℕ → FuncState → FuncState

@@ -4,10 +4,7 @@ ghost use Rattle.ms_paths.specs.Flow.{Event, IsReached};
 ghost use Rattle.ms_ir.specs.Func.{FuncState};
 ghost use Rattle.ms_ir.specs.Graph.{graph_of};
 ghost use Rattle.ms_ir.specs.Locals.{IsNumbered};
-ghost use Rattle.ms_ir.specs.declared.names.InstNo.{InstNo};
-ghost use Rattle.ms_ir.specs.declared.inst.Inst.{Inst};
 ghost use Rattle.ms_alias.specs.declared.loc.Loc.{Loc};
-ghost use Rattle.ms_alias.specs.Reaches.{IsLocRead};
 ghost use Rattle.ms_walk.specs.Clobber.{IsClobberAt, IsClobber};
 
 /// A location has one clobber at most before a place of a reached block, and so before an instruction.
@@ -17,8 +14,3 @@ pub fn one_clobber()
 {
     ms_paths::one_answer();
 }
-
-/// An instruction reads one location at most.
-pub fn one_location()
-    ensures { (f : FuncState) (i : InstNo) (inst : Inst) (a b : Loc) → IsLocRead f i inst a → IsLocRead f i inst b → a ≡ b }
-{}

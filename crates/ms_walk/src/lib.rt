@@ -5,5 +5,5 @@ mod laws;
 mod search;
 mod writers;
 
-pub use laws::{one_clobber, one_location};
+pub use laws::one_clobber;
 pub use search::walk;

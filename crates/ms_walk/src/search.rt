@@ -38,6 +38,7 @@ pub fn walk(
     ensures { IfOk result (λ a. IsClobber func.now i.0 loc.now (event_of a)) }
 {
     func.numbered();
-    let writers = Writers::of(alloc, func, alias, loc)?;
+    ms_alias::tests_told();
+    let writers = Writers { func, alias, loc };
     Ok(last_before(alloc, func, flow, form, &writers, i)?)
 }

@@ -1,38 +1,22 @@
 // The instructions that may write a location.
-ghost use Rattle.std.specs.Prelude.{◌≡◌, IfOk, slice_index_or, false};
-ghost use Rattle.ms_alias.specs.Tables.{IsAliasOf};
-ghost use Rattle.ms_walk.specs.Clobber.{AreWriters};
+ghost use Rattle.ms_alias.specs.Tests.{may_write_by};
 
 use ms_alias::{Alias, Loc};
 use ms_climb::Writes;
-use ms_ir::{Func, InstNo, NoMemory};
-use std::alloc::Global;
+use ms_ir::{Func, InstNo};
 
-/// For each instruction whether it may write a location.
+/// The instructions of a function that may write a location. The pointers are asked of an instruction when the search comes to it.
 #[derive(Drop)]
-pub struct Writers {
-    marks: Vec<bool>,
+pub struct Writers<'a> {
+    pub func: &'a Func,
+    pub alias: &'a Alias,
+    pub loc: &'a Loc,
 }
 
-impl Writes for Writers {
-    ghost test = { λ s i. slice_index_or s.marks.items i false };
+impl<'a> Writes for Writers<'a> {
+    ghost test = { λ s i. may_write_by s.func.now s.alias.now s.loc.now i };
 
     fn writes(&self, i: InstNo) -> bool {
-        (i.0 as usize) < self.marks.len() && self.marks[i.0 as usize]
-    }
-}
-
-impl Writers {
-    /// The instructions of a function that may write a location.
-    pub fn of(alloc: Global, func: &Func, alias: &Alias, loc: &Loc) -> Result<Writers, NoMemory>
-        requires { IsAliasOf func.now alias.now }
-        ensures { IfOk result (λ w. AreWriters func.now loc.now (λ j. slice_index_or w.marks.items j false)) }
-    {
-        func.numbered();
-        let mut marks = Vec::new(alloc);
-        for i in 0..func.made() {
-            marks.push(alias.may_write(func, InstNo(i), loc))?;
-        }
-        Ok(Writers { marks })
+        self.alias.may_write(self.func, i, self.loc)
     }
 }

@@ -1,4 +1,4 @@
-use Rattle.std.proofs.Common.{false, get_or}
+use Rattle.ms_alias.specs.Tests.{may_write_by}
 use Rattle.ms_walk.proofs.Writing.{writer_is_def}
 use Rattle.ms_walk.proofs.search.walk.Goals as goal
 
@@ -12,12 +12,12 @@ returns c =
       at = r.at;
       reached = r.reached;
       clobber = record {
-        writes = λ j. get_or c.in_ok-writers.writers.marks.items j false;
-        writers = c.in_ok-writers.ensures;
+        writes = may_write_by c.args.func.now c.args.alias.now c.args.loc.now;
+        writers = c.tests_told.ensures.writes c.args.func.now c.args.alias.now c.requires.alias c.args.loc.now;
         answer = c.in_ok-last_before.ensures r.block r.place r.inst r.at;
       };
     }
 
 pub last_before-requires-clause-defs : goal.last_before-requires-clause-defs
 last_before-requires-clause-defs c =
-    λ j t. writer_is_def c.args.func.now c.numbered.ensures.one_place j c.args.loc.now ((c.in_ok-writers.ensures j).0 t)
+    λ j t. writer_is_def c.args.func.now c.numbered.ensures.one_place j c.args.loc.now ((c.tests_told.ensures.writes c.args.func.now c.args.alias.now c.requires.alias c.args.loc.now j).0 t)
