@@ -1,8 +1,8 @@
 -- How a chain is climbed.
-use Rattle.std.proofs.Common.{◌≡◌, ◌≢◌, ◌<◌, ◌⊎◌, inl, inr, ℕ, zero, suc, ◌+◌, Bool, true, false, List, [], ◌∷◌, ◌++◌, length, get_or, set, Option, Some, None, refl, ap, sym, ◌∙◌, subst, arith, ⊎_elim, get_or-set_other, get_or-set_same, length-append}
+use Rattle.std.proofs.Common.{◌≡◌, ◌≢◌, ◌<◌, ◌⊎◌, inl, inr, ℕ, zero, suc, ◌+◌, add-one, Bool, true, false, List, [], ◌∷◌, ◌++◌, length, drop, get_or, set, Option, Some, None, refl, ap, sym, ◌∙◌, subst, arith, ⊎_elim, get_or-set_other, get_or-set_same, length-append}
 use Rattle.std.specs.Prelude.{IsSome}
 use Rattle.std.proofs.Math.ListN.{get_or-append, length-set}
-use Rattle.std.proofs.Math.Seq.{get_or-append_seam}
+use Rattle.std.proofs.Math.Seq.{drop-cons, get_or-append_seam}
 use Rattle.std.proofs.lemmas.Bool.{cases_eq}
 use Rattle.std.proofs.lemmas.Bool.Decides.{leb_tells}
 use Rattle.std.proofs.lemmas.List.{get_or_past}
@@ -12,31 +12,8 @@ use Rattle.ms_form.specs.declared.access.Access.TheVariants.{Entry, Of, Phi}
 use Rattle.ms_form.specs.Form.{FormState}
 use Rattle.ms_climb.specs.declared.chains.Mark.{Mark}
 use Rattle.ms_climb.specs.declared.chains.Mark.TheVariants.{Counts, Passed}
-use Rattle.ms_climb.specs.Chains.{ChainsState, before_of, mark_at, stop_by, stop_of, IsMet, IsPassed, IsClimbed, KeepsMarks, IsClimb}
+use Rattle.ms_climb.specs.Chains.{ChainsState, IsChain, first_of, LeadTo, before_of, mark_at, stop_by, stop_of, IsMet, IsPassed, IsClimbed, KeepsMarks, IsClimb, OnChain, IsToward, IsFound, IsClimbing}
 use Rattle.ms_climb.proofs.Options.{cases_Option}
-
--- the Def was passed on this chain
-abbrev pub OnChain : ChainsState → ℕ → Access → Type 0
-OnChain s n Entry = ⊥
-OnChain s n (Of i) = mark_at s i.0 ≡ Some (Passed n)
-OnChain s n (Phi b) = ⊥
-
--- the way from an access goes on where the climb is
-abbrev pub IsToward : ChainsState → ℕ → Access → Access → Type 0
-IsToward s n at a = (a ≡ at) ⊎ OnChain s n a
-
--- what was found of a Def that was not met before
-abbrev pub IsFound : FormState → (ℕ → Bool) → ℕ → ChainsState → Access → ℕ → Option Mark → Type 0
-IsFound f E n s at i None = Unit {0}
-IsFound f E n s at i (Some Counts) = E i ≡ true
-IsFound f E n s at i (Some (Passed c)) = (c ≡ n) × (E i ≡ false) × IsToward s n at (before_of f i)
-
--- a climb from an access has come to another
-pub record IsClimbing (f : FormState) (E : ℕ → Bool) (from at : Access) (old now : ChainsState) : Type 0 where
-  pub keeps : KeepsMarks old now
-  pub stops : now.stops ≡ old.stops
-  pub found : (i : ℕ) → mark_at old i ≡ None → IsFound f E (length old.stops) now at i (mark_at now i)
-  pub start : IsToward now (length old.stops) at from
 
 pub climbing_begun : (f : FormState) (E : ℕ → Bool) (from : Access) (old : ChainsState) → IsClimbing f E from from old old
 climbing_begun f E from old = record {
@@ -118,7 +95,36 @@ climbing_passes f E i from at old s c is lt free o =
       start = on from c.start;
     }
 
--- the end of a climb
+-- Defs that were passed before the climb.
+
+-- where a chain begins
+pub chain_first : (f : FormState) (E : ℕ → Bool) (is : List InstNo) (from to : Access) → IsChain f E is from to → from ≡ first_of is to
+chain_first f E [] from to h = h
+chain_first f E (i ∷ is) from to h = h.0
+
+-- a chain by these Defs leads to an access, and the climb has come to the first of them
+pub record IsPassing (f : FormState) (E : ℕ → Bool) (from to : Access) (old now : ChainsState) (left : List InstNo) : Type 0 where
+  pub chain : LeadTo f E left to
+  pub climbing : IsClimbing f E from (first_of left to) old now
+
+-- the first of them is passed
+passing_first : (f : FormState) (E : ℕ → Bool) (from to : Access) (i : InstNo) (is : List InstNo) (old s : ChainsState) → IsPassing f E from to old s (i ∷ is) → i.0 < length s.marks → mark_at s i.0 ≡ None
+    → IsPassing f E from to old (marked s i.0 (Passed (length old.stops))) is
+passing_first f E from to i is old s p lt free =
+    let first : before_of f i.0 ≡ first_of is to = chain_first f E is (before_of f i.0) to p.chain.2 in
+    record {
+      chain = subst (λ (a : Access). IsChain f E is a to) first p.chain.2;
+      climbing = subst (λ (a : Access). IsClimbing f E from a old (marked s i.0 (Passed (length old.stops)))) first (climbing_passes f E i from (Of i) old s p.climbing refl lt free p.chain.1);
+    }
+
+pub passing_next : (f : FormState) (E : ℕ → Bool) (from to : Access) (is : List InstNo) (k : ℕ) (i : InstNo) (old s : ChainsState) → IsPassing f E from to old s (drop k is) → k < length is → Of (get_or is k (record { 0 = 0 })) ≡ Of i
+    → i.0 < length s.marks → mark_at s i.0 ≡ None → IsPassing f E from to old (marked s i.0 (Passed (length old.stops))) (drop (k + 1) is)
+passing_next f E from to is k i old s p k-lt same lt free =
+    let item : get_or is k (record { 0 = 0 }) ≡ i = cc in
+    let left : drop k is ≡ i ∷ drop (k + 1) is = rw (add-one k) (drop-cons is k (record { 0 = 0 }) k-lt ∙ ap (λ (j : InstNo). j ∷ drop (suc k) is) item) in
+    passing_first f E from to i (drop (k + 1) is) old s (subst (IsPassing f E from to old s) left p) lt free
+
+-- The end of a climb.
 
 abbrev pub ended : ChainsState → Access → ChainsState
 ended s stop = record { marks = s.marks; stops = s.stops ++ stop ∷ [] }

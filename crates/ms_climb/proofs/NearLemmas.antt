@@ -16,23 +16,23 @@ use Rattle.ms_form.specs.Form.{FormState}
 use Rattle.ms_build.specs.Accesses.{event_of, has_phi, defining_at}
 use Rattle.ms_build.specs.Built.{IsFormOf}
 use Rattle.ms_climb.specs.Answer.{AreDefs, IsLastAt}
-use Rattle.ms_climb.specs.Chains.{before_of}
-use Rattle.ms_climb.specs.Near.{IsChain, IsStop, IsNear}
+use Rattle.ms_climb.specs.Chains.{before_of, IsChain}
+use Rattle.ms_climb.specs.Near.{IsStop, IsNear}
 use Rattle.ms_climb.proofs.Events.{OnePlaced, event_of-entry, stands_once}
 use Rattle.ms_climb.proofs.Answered.{LiesLaw, EdgesTold, EdgesAll, in_order, begins, leaves, brings, names, in_z, answer_is, is_form, is_defining, entered_begins}
 use Rattle.ms_climb.proofs.Resolved.{WalkLaw}
 
 -- one more Def is passed
-pub chain_more : (f : FormState) (E : ℕ → Bool) (is : List ℕ) (from at : Access) (i : InstNo) → IsChain f E is from at → at ≡ Of i → E i.0 ≡ false → IsChain f E (is ++ i.0 ∷ []) from (before_of f i.0)
+pub chain_more : (f : FormState) (E : ℕ → Bool) (is : List InstNo) (from at : Access) (i : InstNo) → IsChain f E is from at → at ≡ Of i → E i.0 ≡ false → IsChain f E (is ++ i ∷ []) from (before_of f i.0)
 chain_more f E [] from at i h e o = (h ∙ e, o, refl)
-chain_more f E (j ∷ is) from at i h e o = (h.0, h.1, chain_more f E is (before_of f j) at i h.2 e o)
+chain_more f E (j ∷ is) from at i h e o = (h.0, h.1, chain_more f E is (before_of f j.0) at i h.2 e o)
 
-is_on : List ℕ → ℕ → Bool
+is_on : List InstNo → ℕ → Bool
 is_on [] i = false
-is_on (j ∷ is) i = nat_eq j i || is_on is i
+is_on (j ∷ is) i = nat_eq j.0 i || is_on is i
 
 -- the accesses of a chain, and all Defs that count
-seen_by : List ℕ → (ℕ → Bool) → Event → Bool
+seen_by : List InstNo → (ℕ → Bool) → Event → Bool
 seen_by is E LastEntry = true
 seen_by is E (LastOf i) = is_on is i || E i
 seen_by is E (LastPhi b) = false
@@ -43,32 +43,32 @@ led_by E to LastEntry = LastEntry
 led_by E to (LastOf i) = if E i then LastOf i else to
 led_by E to (LastPhi b) = LastPhi b
 
-record IsLed (all : List ℕ) (E : ℕ → Bool) (to : Access) (x : Event) : Type 0 where
+record IsLed (all : List InstNo) (E : ℕ → Bool) (to : Access) (x : Event) : Type 0 where
   seen : seen_by all E x ≡ true
   leads : led_by E (event_of to) x ≡ event_of to
 
-led_stop : (all : List ℕ) (E : ℕ → Bool) (to : Access) → IsStop E to → IsLed all E to (event_of to)
+led_stop : (all : List InstNo) (E : ℕ → Bool) (to : Access) → IsStop E to → IsLed all E to (event_of to)
 unfolding seen_by led_by
 led_stop all E Entry h = record { seen = refl; leads = refl }
 led_stop all E (Of i) h = record { seen = or_right (is_on all i.0) (E i.0) h; leads = rw h refl }
 led_stop all E (Phi b) h = absurd h
 
-led_from : (f : FormState) (all is : List ℕ) (E : ℕ → Bool) (x to : Access) → IsChain f E is x to → IsStop E to → ((i : ℕ) → is_on is i ≡ true → is_on all i ≡ true) → IsLed all E to (event_of x)
+led_from : (f : FormState) (all is : List InstNo) (E : ℕ → Bool) (x to : Access) → IsChain f E is x to → IsStop E to → ((i : ℕ) → is_on is i ≡ true → is_on all i ≡ true) → IsLed all E to (event_of x)
 unfolding seen_by led_by is_on
 led_from f all [] E x to h stop sub = subst (λ (a : Access). IsLed all E to (event_of a)) (sym h) (led_stop all E to stop)
 led_from f all (i ∷ is) E x to h stop sub =
-    let on : is_on all i ≡ true = sub i (or_left (nat_eq i i) (is_on is i) (let t : nat_eq i i ≡ true = grind (arith, nat_tests) in t)) in
-    let here : IsLed all E to (LastOf i) = record { seen = or_left (is_on all i) (E i) on; leads = rw h.1 refl } in
+    let on : is_on all i.0 ≡ true = sub i.0 (or_left (nat_eq i.0 i.0) (is_on is i.0) (let t : nat_eq i.0 i.0 ≡ true = grind (arith, nat_tests) in t)) in
+    let here : IsLed all E to (LastOf i.0) = record { seen = or_left (is_on all i.0) (E i.0) on; leads = rw h.1 refl } in
     subst (λ (a : Access). IsLed all E to (event_of a)) (sym h.0) here
 
-led_next : (f : FormState) (all is : List ℕ) (E : ℕ → Bool) (x to : Access) (i : ℕ) → IsChain f E is x to → IsStop E to → ((j : ℕ) → is_on is j ≡ true → is_on all j ≡ true) → is_on is i ≡ true → IsLed all E to (event_of (before_of f i))
+led_next : (f : FormState) (all is : List InstNo) (E : ℕ → Bool) (x to : Access) (i : ℕ) → IsChain f E is x to → IsStop E to → ((j : ℕ) → is_on is j ≡ true → is_on all j ≡ true) → is_on is i ≡ true → IsLed all E to (event_of (before_of f i))
 unfolding is_on
 led_next f all [] E x to i h stop sub on = cc
 led_next f all (j ∷ is) E x to i h stop sub on =
-    let rest : (k : ℕ) → is_on is k ≡ true → is_on all k ≡ true = λ k t. sub k (or_right (nat_eq j k) (is_on is k) t) in
-    elim (eqb_tells j i) [
-      | inl same ↦ subst (λ (k : ℕ). IsLed all E to (event_of (before_of f k))) same.1 (led_from f all is E (before_of f j) to h.2 stop rest)
-      | inr other ↦ led_next f all is E (before_of f j) to i h.2 stop rest (rw other.0 at on)
+    let rest : (k : ℕ) → is_on is k ≡ true → is_on all k ≡ true = λ k t. sub k (or_right (nat_eq j.0 k) (is_on is k) t) in
+    elim (eqb_tells j.0 i) [
+      | inl same ↦ subst (λ (k : ℕ). IsLed all E to (event_of (before_of f k))) same.1 (led_from f all is E (before_of f j.0) to h.2 stop rest)
+      | inr other ↦ led_next f all is E (before_of f j.0) to i h.2 stop rest (rw other.0 at on)
     ]
 
 module _ (func : FuncState) (gr : List Run) (f : FormState) (same : gr ≡ edges_of func.blocks) (form : IsFormOf func f) (one : OnePlaced func.blocks)

@@ -1,7 +1,8 @@
-// Chains of Defs that do not count, each climbed once.
-ghost use Rattle.std.specs.Prelude.{◌≡◌, ◌<◌, [], ℕ, length, replicate, IfOk, MatchOption, Some, None};
+// Chains of Defs that do not count, each climbed once: a Def is marked when it is met, and one that is marked is not asked again.
+ghost use Rattle.std.specs.Prelude.{◌≡◌, ◌<◌, [], ℕ, Bool, length, replicate, IfOk, MatchOption, Some, None};
 ghost use Rattle.ms_form.specs.declared.access.Access.TheVariants.{Of};
-ghost use Rattle.ms_climb.specs.Chains.{before_of, mark_at, stop_of, IsMet, IsClimbed, IsClimb};
+ghost use Rattle.ms_form.specs.Form.{FormState};
+ghost use Rattle.ms_climb.specs.Chains.{before_of, mark_at, stop_of, first_of, LeadTo, IsMet, IsClimbed, IsClimbing, IsClimb};
 
 use crate::writes::Writes;
 use ms_form::{Access, Form};
@@ -93,18 +94,36 @@ impl Chains {
         None
     }
 
-    /// Climbs from an access to its stop.
+    // Begins a climb with Defs that were passed already, on the way to an access. Tells where the climb goes on: there, or at
+    // the first of them that was met.
+    fn pass(&mut self, passed: &[InstNo], to: Access) -> Access
+        ensures { (f : FormState) (E : ℕ → Bool) → LeadTo f E passed.now to →
+            IsClimbing f E (first_of passed.now to) result self.old self.new }
+    {
+        let chain = self.stops.len();
+        for i in passed {
+            match self.unmet(Access::Of(*i)) {
+                Some(i) => self.marks[i.0 as usize] = Some(Mark::Passed(chain)),
+                None => return Access::Of(*i),
+            }
+        }
+        to
+    }
+
+    /// Climbs to a stop: from an access, or from the first of the Defs that were passed already on the way to it.
     pub fn climb<W: Writes>(
         &mut self,
         form: &Form,
         counted: &W,
+        passed: &[InstNo],
         from: Access,
     ) -> Result<Access, NoMemory>
-        requires { IsClimbed form.now (W.test counted.now) self.old }
-        ensures { IfOk result (λ stop. IsClimb form.now (W.test counted.now) from stop self.old self.new) }
+        requires climbed { IsClimbed form.now (W.test counted.now) self.old }
+        requires chain { LeadTo form.now (W.test counted.now) passed.now from }
+        ensures { IfOk result (λ stop. IsClimb form.now (W.test counted.now) (first_of passed.now from) stop self.old self.new) }
     {
         let chain = self.stops.len();
-        let mut at = from;
+        let mut at = self.pass(passed, from);
         'climbing: while let Some(i) = self.unmet(at) {
             if counted.writes(i) {
                 self.marks[i.0 as usize] = Some(Mark::Counts);

@@ -6,7 +6,7 @@ ghost use Rattle.ms_flow.specs.Table.{edges_of};
 ghost use Rattle.ms_build.specs.Built.{IsFormOf};
 ghost use Rattle.ms_climb.specs.Answer.{AreDefs, IsLastAt, IsLastBefore, IsLastAtEnd, StandsReached};
 
-use crate::near::near_stop;
+use crate::near::{Near, near_stop};
 use crate::skips::Skips;
 use crate::start::start_before;
 use crate::walk::Walk;
@@ -39,13 +39,15 @@ fn climb<W: Writes>(
     ms_flow::sources_told();
     ms_paths::walk_answers();
     ms_paths::answer_lies_on_every();
-    if let Some(found) = near_stop(form, counted, start) {
-        return Ok(found);
+    match near_stop(alloc, form, counted, start)? {
+        Near::Stop(found) => Ok(found),
+        Near::Left { passed, at } => {
+            let walk = Walk::collect(alloc, func.made(), flow, form, counted, &passed, at)?;
+            let mut skips = Skips::none(alloc, flow.block_count())?;
+            skips.settle(flow, form, &walk);
+            Ok(skips.root(walk.stop(start)))
+        }
     }
-    let walk = Walk::collect(alloc, func.made(), flow, form, counted, start)?;
-    let mut skips = Skips::none(alloc, flow.block_count())?;
-    skips.settle(flow, form, &walk);
-    Ok(skips.root(walk.stop(start)))
 }
 
 /// The last counted Def before an instruction, on every path to it, with phis at the blocks that need one for the counted

@@ -1,14 +1,14 @@
 // The accesses that a search reaches, each once.
 ghost use Rattle.std.specs.Prelude.{◌≡◌, ◌<◌, ◌≤◌, ℕ, [], length, replicate, IfOk, OnOk, None, false, Some, MatchOption, slice_get};
 ghost use Rattle.ms_form.specs.declared.access.Access.TheVariants.{Phi};
-ghost use Rattle.ms_climb.specs.Chains.{stop_of};
+ghost use Rattle.ms_climb.specs.Chains.{stop_of, first_of, LeadTo};
 ghost use Rattle.ms_climb.specs.Walk.{brought_of, has_met, with_met, IsWalked, IsStep, IsOpened, IsCollected};
 
 use crate::chains::Chains;
 use crate::writes::Writes;
 use ms_flow::Flow;
 use ms_form::{Access, Form};
-use ms_ir::{BlockNo, NoMemory};
+use ms_ir::{BlockNo, InstNo, NoMemory};
 use std::alloc::Global;
 use std::marker::Model;
 
@@ -98,12 +98,19 @@ impl Walk {
         Ok(())
     }
 
-    // Reaches an access, and the stop of its chain.
-    fn reach<W: Writes>(&mut self, form: &Form, counted: &W, access: Access) -> Result<(), NoMemory>
-        requires { IsWalked form.now (W.test counted.now) self.old }
-        ensures { OnOk result (IsStep form.now (W.test counted.now) access self.old self.new) }
+    // Reaches an access, or the first of the Defs that were passed already on the way to it, and the stop of its chain.
+    fn reach<W: Writes>(
+        &mut self,
+        form: &Form,
+        counted: &W,
+        passed: &[InstNo],
+        access: Access,
+    ) -> Result<(), NoMemory>
+        requires walked { IsWalked form.now (W.test counted.now) self.old }
+        requires chain { LeadTo form.now (W.test counted.now) passed.now access }
+        ensures { OnOk result (IsStep form.now (W.test counted.now) (first_of passed.now access) self.old self.new) }
     {
-        let stop = self.chains.climb(form, counted, access)?;
+        let stop = self.chains.climb(form, counted, passed, access)?;
         self.meet(stop)?;
         Ok(())
     }
@@ -120,25 +127,27 @@ impl Walk {
         ensures { OnOk result (IsOpened form.now (W.test counted.now) b slots self.old self.new) }
     {
         for slot in 0..slots {
-            self.reach(form, counted, brought(form, b, slot))?;
+            self.reach(form, counted, &[], brought(form, b, slot))?;
         }
         Ok(())
     }
 
     /// Reaches all accesses to which the way up from one leads: from each Def that does not count to the access before it, and
-    /// from each phi to its operands.
+    /// from each phi to its operands. The way begins with the Defs that were passed already, which lead to `at`.
     pub fn collect<W: Writes>(
         alloc: Global,
         insts: u32,
         flow: &Flow,
         form: &Form,
         counted: &W,
-        start: Access,
+        passed: &[InstNo],
+        at: Access,
     ) -> Result<Walk, NoMemory>
-        ensures { IfOk result (IsCollected flow.now.graph form.now (W.test counted.now) insts start) }
+        requires { LeadTo form.now (W.test counted.now) passed.now at }
+        ensures { IfOk result (IsCollected flow.now.graph form.now (W.test counted.now) insts (first_of passed.now at)) }
     {
         let mut walk = Walk::none(alloc, insts, flow.block_count())?;
-        walk.reach(form, counted, start)?;
+        walk.reach(form, counted, passed, at)?;
         let mut next = 0;
         'opening: while next < walk.phi_count() {
             let b = walk.phi(next);

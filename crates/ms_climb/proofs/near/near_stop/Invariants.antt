@@ -1,7 +1,15 @@
-use Rattle.std.proofs.Common.{ℕ, List}
-use Rattle.ms_climb.specs.Near.{IsChain}
+use Rattle.std.proofs.Common.{◌≤◌, ◌-◌, length}
+use Rattle.ms_climb.specs.declared.near.TheConstants.{NEAR}
+use Rattle.ms_climb.specs.Chains.{IsChain}
 use Rattle.ms_climb.proofs.near.near_stop.Given as goal
 
--- a chain leads to where the climb is
-abbrev pub invariant-loop : goal.invariant-loop
-invariant-loop g l = (passed : List ℕ) × IsChain l.form (g.W.Writes.test l.counted) passed l.fn.from l.at
+-- the Defs that were passed lead to where the climb is
+abbrev pub invariant-climbing : goal.invariant-climbing
+invariant-climbing g l = record {
+  chain : IsChain l.form (g.W.Writes.test l.counted) l.passed.items l.fn.from l.at;
+  few : length l.passed.items ≤ NEAR;
+}
+
+-- each turn passes one
+abbrev pub decreases-climbing : goal.decreases-climbing
+decreases-climbing g l = NEAR - length l.passed.items

@@ -1,11 +1,12 @@
 use Rattle.std.proofs.Common.{◌≡◌, ◌<◌, ◌∙◌, sym, subst, ap, length, arith}
 use Rattle.ms_ir.specs.declared.names.BlockNo.{BlockNo}
+use Rattle.ms_climb.specs.Chains.{first_of}
 use Rattle.ms_climb.specs.Walk.{phi_at, IsWalked}
 use Rattle.ms_climb.proofs.WalkLemmas.{get_or_of, walked_none, insts_none, blocks_none, sees_grown, collected_more}
 use Rattle.ms_climb.proofs.walk.Walk.collect.Goals as goal
 
-pub reach-requires : goal.reach-requires
-reach-requires g c =
+pub reach-requires-clause-walked : goal.reach-requires-clause-walked
+reach-requires-clause-walked g c =
     subst (IsWalked c.args.form.now (g.W.Writes.test c.args.counted.now)) (sym c.in_ok-walk.ensures)
     (walked_none c.args.form.now (g.W.Writes.test c.args.counted.now) c.args.insts c.block_count.result)
 
@@ -39,7 +40,7 @@ opening-preserved g c =
       walked = o.walked;
       insts = o.grown.chains.size ∙ i.insts;
       blocks = o.grown.blocks ∙ i.blocks;
-      sees = sees_grown c.opening.walk c.open.new.self c.args.start o.grown i.sees;
+      sees = sees_grown c.opening.walk c.open.new.self (first_of c.args.passed.now c.args.at) o.grown i.sees;
       opened =
           collected_more c.args.flow.now.graph c.args.form.now (g.W.Writes.test c.args.counted.now) n c.pred_count.result c.phi-b.result c.opening.walk c.open.new.self o lt c.phi-b.ensures
           c.pred_count.ensures i.opened;

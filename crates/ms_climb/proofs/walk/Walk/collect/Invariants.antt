@@ -1,4 +1,5 @@
 use Rattle.std.proofs.Common.{◌≡◌, ◌≤◌, ◌-◌, length}
+use Rattle.ms_climb.specs.Chains.{first_of}
 use Rattle.ms_climb.specs.Walk.{IsWalked, Sees, AreOpened}
 use Rattle.ms_climb.proofs.walk.Walk.collect.Given as goal
 
@@ -8,7 +9,7 @@ invariant-opening g l = record {
   walked : IsWalked l.form (g.W.Writes.test l.counted) l.walk;
   insts : length l.walk.chains.marks ≡ l.fn.insts;
   blocks : length l.walk.met ≡ length l.flow.graph;
-  sees : Sees l.walk l.fn.start;
+  sees : Sees l.walk (first_of l.passed l.fn.at);
   opened : AreOpened l.flow.graph l.form l.next l.walk;
   place : l.next ≤ length l.walk.phis;
 }
