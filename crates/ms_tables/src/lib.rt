@@ -5,17 +5,29 @@
 #[cfg(test)]
 mod attributes;
 #[cfg(test)]
+mod built;
+#[cfg(test)]
 mod clang;
 #[cfg(test)]
 mod drafts;
 #[cfg(test)]
 mod forms;
 #[cfg(test)]
+mod functions;
+#[cfg(test)]
+mod names;
+#[cfg(test)]
 mod numbers;
 #[cfg(test)]
 mod outside;
 #[cfg(test)]
+mod parts;
+#[cfg(test)]
+mod printing;
+#[cfg(test)]
 mod sorts;
+#[cfg(test)]
+mod tokens;
 #[cfg(test)]
 mod told;
 #[cfg(test)]

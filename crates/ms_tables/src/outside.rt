@@ -1,7 +1,6 @@
 // Each form of a line outside of functions and of the lines between blocks, with every optional part and with none, and
 // lines of no form. Blanks and comments stand in odd places.
 use crate::told::{expect, expect_none};
-use ms_lex::{LexFault, tokens};
 use std::test::Fail;
 
 // Lines and what they are printed as.
@@ -170,16 +169,4 @@ const IN_NO_FORM: [&str; 61] = [
 #[test]
 fn lines_in_no_form(rt: HostRuntime) -> Result<(), Fail> {
     expect_none(&rt, rt.alloc(), &IN_NO_FORM)
-}
-
-#[test]
-fn a_string_without_an_end_is_bad_at_its_byte(rt: HostRuntime) {
-    for (line, at) in [
-        ("\"", 0),
-        ("source_filename = \"a.c", 18),
-        ("call void @f() \"a\"=\"b", 19),
-    ] {
-        let fault = tokens(rt.alloc(), line.as_bytes()).err();
-        assert_eq!(rt; fault, Some(LexFault::Bad(at)), "{line}");
-    }
 }
