@@ -11,8 +11,6 @@ mod entering;
 mod filling;
 mod lasts;
 mod settling;
-#[cfg(test)]
-mod tests;
 
 pub use building::build;
 pub use settling::settle;

@@ -7,8 +7,6 @@ mod order;
 mod search;
 mod sources;
 mod table;
-#[cfg(test)]
-mod tests;
 mod walker;
 
 pub use flow::{Edge, Flow};

@@ -5,8 +5,6 @@ mod access;
 mod chains;
 mod form;
 mod places;
-#[cfg(test)]
-mod tests;
 mod waiting;
 
 pub use access::{Access, User};
