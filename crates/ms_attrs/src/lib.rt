@@ -10,8 +10,6 @@ mod laws;
 mod memory;
 mod outer;
 mod part;
-#[cfg(test)]
-mod tests;
 mod texts;
 
 pub use captures::keeps_by;

@@ -9,8 +9,6 @@
 mod keyword;
 mod laws;
 mod line;
-#[cfg(test)]
-mod tests;
 mod write;
 
 pub use keyword::{Keyword, cast_bytes, keyword_bytes, op_bytes, pred_bytes, ty_bytes};

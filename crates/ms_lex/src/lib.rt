@@ -19,5 +19,3 @@ pub use laws::{at_most_one_list, list_or_bad_byte};
 pub use lex::tokens;
 pub use token::{Token, TokenKind, Tokens};
 
-#[cfg(test)]
-mod tests;

@@ -10,8 +10,6 @@ mod attributes;
 mod brackets;
 mod fronts;
 mod objects;
-#[cfg(test)]
-mod tests;
 mod wholes;
 mod words;
 

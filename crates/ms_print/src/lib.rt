@@ -6,8 +6,6 @@ mod lines;
 mod module;
 mod notes;
 mod numbering;
-#[cfg(test)]
-mod tests;
 mod text;
 mod walk;
 

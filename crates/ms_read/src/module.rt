@@ -129,19 +129,3 @@ pub fn read_module(alloc: Global, bytes: &[u8]) -> Result<Draft, ReadFault>
         Err(ReadFault::Text(read + 1))
     }
 }
-
-#[cfg(test)]
-mod tests {
-    use super::*;
-    use std::test::Fail;
-
-    #[test]
-    fn the_empty_text_is_the_empty_draft(rt: HostRuntime) -> Result<(), Fail> {
-        let draft = match read_module(rt.alloc(), b"") {
-            Ok(draft) => draft,
-            Err(_) => return Err(Fail::from("not read")),
-        };
-        assert_eq!(rt; draft.len(), 0);
-        Ok(())
-    }
-}

@@ -15,8 +15,6 @@ mod register;
 mod resolved;
 mod symbols;
 mod table;
-#[cfg(test)]
-mod tests;
 mod uses;
 
 pub use draft::resolve;
