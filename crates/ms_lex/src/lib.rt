@@ -18,4 +18,3 @@ pub use fault::LexFault;
 pub use laws::{at_most_one_list, list_or_bad_byte};
 pub use lex::tokens;
 pub use token::{Token, TokenKind, Tokens};
-
