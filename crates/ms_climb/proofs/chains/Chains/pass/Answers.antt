@@ -11,5 +11,5 @@ loop-i-preserved c = λ f E h.
     let size : length c.self.inside.stops.items ≡ length c.args.self.now.stops = ap (λ (x : ChainsState). length x.stops) c.self.view_is in
     let chain : c.len-chain.result ≡ length c.args.self.now.stops = omega arith in
     let e = c.in-Some.ensures in
-    rw (marks, stops, chain)
-    (passing_next f E (first_of c.args.passed.now c.args.to) c.args.to c.args.passed.now c.loop-i.i-index c.in-Some.i c.args.self.now s (c.loop-i.invariant f E h) c.loop-i-test.true e.0 e.1 e.2)
+    let next = passing_next f E (first_of c.args.passed.now c.args.to) c.args.to c.args.passed.now c.loop-i.i-index c.in-Some.i c.args.self.now s (c.loop-i.invariant f E h) c.loop-i-test.true e.0 e.1 e.2 in
+    rw (marks, stops) (rw (← chain) at next)
