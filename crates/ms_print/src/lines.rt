@@ -70,9 +70,9 @@ fn raw_arg(alloc: Global, names: &Names, tables: &Tables, arg: &Arg) -> Result<R
     ensures { IfOk result (λ a. a ≡ raw_arg (shown_by names.now tables.now) arg.now) }
 {
     Ok(RawArg {
+        text: copy(alloc, &arg.text)?,
         ty: arg.ty,
         val: raw_val(alloc, names, tables, &arg.val)?,
-        text: copy(alloc, &arg.text)?,
     })
 }
 
@@ -120,6 +120,18 @@ fn raw_entries(
     Ok(raw)
 }
 
+// In each line the texts are copied first, since what was made before a copy that fails has to be dropped there, and the drop of a
+// value has more steps than that of a text.
+fn raw_alloca(alloc: Global, size: u32, head: &Text, tail: &Text) -> Result<RawInst, NoMemory>
+    ensures { IfOk result (λ r. r ≡ RawInst.Alloca size head.now tail.now) }
+{
+    Ok(RawInst::Alloca {
+        size,
+        head: copy(alloc, head)?,
+        tail: copy(alloc, tail)?,
+    })
+}
+
 fn raw_gep(
     alloc: Global,
     names: &Names,
@@ -133,11 +145,28 @@ fn raw_gep(
     ensures { IfOk result (λ r. r ≡ RawInst.Gep (raw_val (shown_by names.now tables.now) base.now) offset head.now index.now tail.now) }
 {
     Ok(RawInst::Gep {
-        base: raw_val(alloc, names, tables, base)?,
-        offset,
         head: copy(alloc, head)?,
         index: copy(alloc, index)?,
         tail: copy(alloc, tail)?,
+        base: raw_val(alloc, names, tables, base)?,
+        offset,
+    })
+}
+
+fn raw_load(
+    alloc: Global,
+    names: &Names,
+    tables: &Tables,
+    ty: Ty,
+    ptr: &Val,
+    tail: &Text,
+) -> Result<RawInst, NoMemory>
+    ensures { IfOk result (λ r. r ≡ RawInst.Load ty (raw_val (shown_by names.now tables.now) ptr.now) tail.now) }
+{
+    Ok(RawInst::Load {
+        tail: copy(alloc, tail)?,
+        ty,
+        ptr: raw_val(alloc, names, tables, ptr)?,
     })
 }
 
@@ -153,10 +182,10 @@ fn raw_store(
     ensures { IfOk result (λ r. r ≡ RawInst.Store ty (raw_val (shown_by names.now tables.now) val.now) (raw_val (shown_by names.now tables.now) ptr.now) tail.now) }
 {
     Ok(RawInst::Store {
+        tail: copy(alloc, tail)?,
         ty,
         val: raw_val(alloc, names, tables, val)?,
         ptr: raw_val(alloc, names, tables, ptr)?,
-        tail: copy(alloc, tail)?,
     })
 }
 
@@ -174,12 +203,12 @@ fn raw_copy(
     ensures { IfOk result (λ r. r ≡ RawInst.Copy (raw_arg (shown_by names.now tables.now) to.now) (raw_arg (shown_by names.now tables.now) from.now) len head.now [] tail.now) }
 {
     Ok(RawInst::Copy {
-        to: raw_arg(alloc, names, tables, to)?,
-        from: raw_arg(alloc, names, tables, from)?,
-        len,
         head: copy(alloc, head)?,
         post: Text::new(alloc),
         tail: copy(alloc, tail)?,
+        len,
+        to: raw_arg(alloc, names, tables, to)?,
+        from: raw_arg(alloc, names, tables, from)?,
     })
 }
 
@@ -196,12 +225,12 @@ fn raw_call(
     ensures { IfOk result (λ r. r ≡ RawInst.Call (word_at names.now.funcs callee.0) ret (map (raw_arg (shown_by names.now tables.now)) args.now) head.now [] tail.now) }
 {
     Ok(RawInst::Call {
-        callee: func_word(alloc, names, callee)?,
-        ret,
-        args: raw_args(alloc, names, tables, args)?,
         head: copy(alloc, head)?,
         post: Text::new(alloc),
         tail: copy(alloc, tail)?,
+        ret,
+        callee: func_word(alloc, names, callee)?,
+        args: raw_args(alloc, names, tables, args)?,
     })
 }
 
@@ -219,12 +248,12 @@ fn raw_bin(
     ensures { IfOk result (λ r. r ≡ RawInst.Bin op flags ty (raw_val (shown_by names.now tables.now) a.now) (raw_val (shown_by names.now tables.now) b.now) tail.now) }
 {
     Ok(RawInst::Bin {
+        tail: copy(alloc, tail)?,
         op,
         flags,
         ty,
         a: raw_val(alloc, names, tables, a)?,
         b: raw_val(alloc, names, tables, b)?,
-        tail: copy(alloc, tail)?,
     })
 }
 
@@ -242,12 +271,12 @@ fn raw_cmp(
     ensures { IfOk result (λ r. r ≡ RawInst.Cmp pred flags ty (raw_val (shown_by names.now tables.now) a.now) (raw_val (shown_by names.now tables.now) b.now) tail.now) }
 {
     Ok(RawInst::Cmp {
+        tail: copy(alloc, tail)?,
         pred,
         flags,
         ty,
         a: raw_val(alloc, names, tables, a)?,
         b: raw_val(alloc, names, tables, b)?,
-        tail: copy(alloc, tail)?,
     })
 }
 
@@ -264,11 +293,11 @@ fn raw_select(
     ensures { IfOk result (λ r. r ≡ RawInst.Select (raw_val (shown_by names.now tables.now) cond.now) ty (raw_val (shown_by names.now tables.now) a.now) (raw_val (shown_by names.now tables.now) b.now) tail.now) }
 {
     Ok(RawInst::Select {
-        cond: raw_val(alloc, names, tables, cond)?,
+        tail: copy(alloc, tail)?,
         ty,
+        cond: raw_val(alloc, names, tables, cond)?,
         a: raw_val(alloc, names, tables, a)?,
         b: raw_val(alloc, names, tables, b)?,
-        tail: copy(alloc, tail)?,
     })
 }
 
@@ -286,12 +315,29 @@ fn raw_cast(
     ensures { IfOk result (λ r. r ≡ RawInst.Cast op flags from (raw_val (shown_by names.now tables.now) a.now) to tail.now) }
 {
     Ok(RawInst::Cast {
+        tail: copy(alloc, tail)?,
         op,
         flags,
         from,
         a: raw_val(alloc, names, tables, a)?,
         to,
+    })
+}
+
+fn raw_phi(
+    alloc: Global,
+    names: &Names,
+    tables: &Tables,
+    ty: Ty,
+    entries: &[Entry],
+    tail: &Text,
+) -> Result<RawInst, NoMemory>
+    ensures { IfOk result (λ r. r ≡ RawInst.Phi ty (map (raw_entry (shown_by names.now tables.now)) entries.now) tail.now) }
+{
+    Ok(RawInst::Phi {
         tail: copy(alloc, tail)?,
+        ty,
+        entries: raw_entries(alloc, names, tables, entries)?,
     })
 }
 
@@ -305,11 +351,7 @@ pub fn raw_inst(
     ensures { IfOk result (λ r. r ≡ raw_inst (shown_by names.now tables.now) inst.now) }
 {
     match inst {
-        Inst::Alloca { size, head, tail } => Ok(RawInst::Alloca {
-            size: *size,
-            head: copy(alloc, head)?,
-            tail: copy(alloc, tail)?,
-        }),
+        Inst::Alloca { size, head, tail } => raw_alloca(alloc, *size, head, tail),
         Inst::Gep {
             base,
             offset,
@@ -317,11 +359,7 @@ pub fn raw_inst(
             index,
             tail,
         } => raw_gep(alloc, names, tables, base, *offset, head, index, tail),
-        Inst::Load { ty, ptr, tail } => Ok(RawInst::Load {
-            ty: *ty,
-            ptr: raw_val(alloc, names, tables, ptr)?,
-            tail: copy(alloc, tail)?,
-        }),
+        Inst::Load { ty, ptr, tail } => raw_load(alloc, names, tables, *ty, ptr, tail),
         Inst::Store { ty, val, ptr, tail } => raw_store(alloc, names, tables, *ty, val, ptr, tail),
         Inst::Copy {
             to,
@@ -378,11 +416,9 @@ pub fn raw_inst(
             to,
             tail,
         } => raw_cast(alloc, names, tables, *op, *flags, *from, a, *to, tail),
-        Inst::Phi { ty, entries, tail } => Ok(RawInst::Phi {
-            ty: *ty,
-            entries: raw_entries(alloc, names, tables, entries.as_slice())?,
-            tail: copy(alloc, tail)?,
-        }),
+        Inst::Phi { ty, entries, tail } => {
+            raw_phi(alloc, names, tables, *ty, entries.as_slice(), tail)
+        }
     }
 }
 
@@ -410,6 +446,48 @@ fn raw_given(
     }
 }
 
+fn raw_br(alloc: Global, tables: &Tables, target: BlockNo, tail: &Text) -> Result<RawTerm, NoMemory>
+    ensures { IfOk result (λ r. r ≡ RawTerm.Br (label_of tables.now.labels.items target.0) tail.now) }
+{
+    let tail = copy(alloc, tail)?;
+    Ok(RawTerm::Br(label(alloc, tables, target)?, tail))
+}
+
+fn raw_cond_br(
+    alloc: Global,
+    names: &Names,
+    tables: &Tables,
+    cond: &Val,
+    if_true: BlockNo,
+    if_false: BlockNo,
+    tail: &Text,
+) -> Result<RawTerm, NoMemory>
+    ensures { IfOk result (λ r. r ≡ RawTerm.CondBr (raw_val (shown_by names.now tables.now) cond.now) (label_of tables.now.labels.items if_true.0) (label_of tables.now.labels.items if_false.0) tail.now) }
+{
+    let tail = copy(alloc, tail)?;
+    let to_true = label(alloc, tables, if_true)?;
+    let to_false = label(alloc, tables, if_false)?;
+    Ok(RawTerm::CondBr(
+        raw_val(alloc, names, tables, cond)?,
+        to_true,
+        to_false,
+        tail,
+    ))
+}
+
+fn raw_ret(
+    alloc: Global,
+    names: &Names,
+    tables: &Tables,
+    given: &Option<(Ty, Val)>,
+    tail: &Text,
+) -> Result<RawTerm, NoMemory>
+    ensures { IfOk result (λ r. r ≡ RawTerm.Ret (raw_given (shown_by names.now tables.now) given.now) tail.now) }
+{
+    let tail = copy(alloc, tail)?;
+    Ok(RawTerm::Ret(raw_given(alloc, names, tables, given)?, tail))
+}
+
 // A terminator as its line says it.
 pub fn raw_term(
     alloc: Global,
@@ -420,20 +498,11 @@ pub fn raw_term(
     ensures { IfOk result (λ r. r ≡ raw_term (shown_by names.now tables.now) term.now) }
 {
     match term {
-        Term::Br(target, tail) => Ok(RawTerm::Br(
-            label(alloc, tables, *target)?,
-            copy(alloc, tail)?,
-        )),
-        Term::CondBr(cond, if_true, if_false, tail) => Ok(RawTerm::CondBr(
-            raw_val(alloc, names, tables, cond)?,
-            label(alloc, tables, *if_true)?,
-            label(alloc, tables, *if_false)?,
-            copy(alloc, tail)?,
-        )),
-        Term::Ret(given, tail) => Ok(RawTerm::Ret(
-            raw_given(alloc, names, tables, given)?,
-            copy(alloc, tail)?,
-        )),
+        Term::Br(target, tail) => raw_br(alloc, tables, *target, tail),
+        Term::CondBr(cond, if_true, if_false, tail) => {
+            raw_cond_br(alloc, names, tables, cond, *if_true, *if_false, tail)
+        }
+        Term::Ret(given, tail) => raw_ret(alloc, names, tables, given, tail),
         Term::Unreachable(tail) => Ok(RawTerm::Unreachable(copy(alloc, tail)?)),
     }
 }

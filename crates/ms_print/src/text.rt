@@ -1,7 +1,7 @@
 // The text of a function.
 ghost use Rattle.std.specs.Prelude.{◌≡◌, ◌<◌, ◌++◌, [], ℕ, length, drop, slice_index_or, OnOk, IfOk};
 ghost use Rattle.ms_ir.specs.Func.{insts_at, no_block, placed_as};
-ghost use Rattle.ms_print.specs.Lines.{shown_by, define_with, inst_line, term_line};
+ghost use Rattle.ms_print.specs.Lines.{shown_by, define_with, inst_line, label_line, term_line};
 ghost use Rattle.ms_print.specs.Notes.{note_by};
 ghost use Rattle.ms_print.specs.Text.{ended, line_text, note_at, insts_text, label_text, block_text, blocks_text, func_text};
 
@@ -38,6 +38,16 @@ fn push_line(out: &mut Vec<u8>, line: &Line) -> Result<(), NoMemory>
     write_line(line, &mut text)?;
     push_text(out, &text)?;
     Ok(())
+}
+
+// The same, for a line that is made for it. It is dropped by a call, since the steps of a line's drop, over each form of a line, would
+// otherwise stand in this function's proof once for each exit, and in the proof of each function that makes a line.
+fn push_made(out: &mut Vec<u8>, line: Line) -> Result<(), NoMemory>
+    ensures { OnOk result (out.new.items ≡ out.old.items ++ line_text line) }
+{
+    let pushed = push_line(out, &line);
+    drop(line);
+    pushed
 }
 
 // The place of the note for a number.
@@ -85,8 +95,7 @@ fn push_inst_line(
     let alloc = *out.allocator();
     let name = result_name(alloc, tables, node.result)?;
     let inst = raw_inst(alloc, names, tables, &node.inst)?;
-    push_line(out, &Line::Inst(name, inst))?;
-    Ok(())
+    push_made(out, Line::Inst(name, inst))
 }
 
 // The note and the line of each instruction of a block.
@@ -114,19 +123,25 @@ fn push_insts(
     Ok(())
 }
 
+fn push_label_line(out: &mut Vec<u8>, tables: &Tables, b: BlockNo) -> Result<(), NoMemory>
+    ensures { OnOk result (out.new.items ≡ out.old.items ++ line_text (label_line tables.now.labels.items b.0)) }
+{
+    let name = label(*out.allocator(), tables, b)?;
+    push_made(out, Line::Label(name))
+}
+
 // An empty line before each block but the first, and the label line.
 fn push_label(out: &mut Vec<u8>, tables: &Tables, b: BlockNo, name: &Name) -> Result<(), NoMemory>
     ensures { OnOk result (out.new.items ≡ out.old.items ++ label_text tables.now.labels.items b.0 name.now) }
 {
-    let line = Line::Label(label(*out.allocator(), tables, b)?);
     if b.0 == 0 {
         match name {
-            Name::Word(_) => push_line(out, &line)?,
+            Name::Word(_) => push_label_line(out, tables, b)?,
             Name::Number(_) | Name::Absent => {}
         }
     } else {
         out.push(b'\n')?;
-        push_line(out, &line)?;
+        push_label_line(out, tables, b)?;
     }
     Ok(())
 }
@@ -135,8 +150,7 @@ fn push_term(out: &mut Vec<u8>, names: &Names, tables: &Tables, term: &Term) -> 
     ensures { OnOk result (out.new.items ≡ out.old.items ++ line_text (term_line (shown_by names.now tables.now) term.now)) }
 {
     let term = raw_term(*out.allocator(), names, tables, term)?;
-    push_line(out, &Line::Term(term))?;
-    Ok(())
+    push_made(out, Line::Term(term))
 }
 
 fn push_block(
@@ -197,8 +211,7 @@ fn push_define(out: &mut Vec<u8>, func: &Func, params: Params) -> Result<(), NoM
         variadic: false,
         post: Text::from_bytes(alloc, func.tail().bytes())?,
     };
-    push_line(out, &Line::Define(head))?;
-    Ok(())
+    push_made(out, Line::Define(head))
 }
 
 // The text of a function with notes.
@@ -220,7 +233,7 @@ pub fn push_func(
     };
     push_define(out, func, params)?;
     push_blocks(out, func, names, notes, &page)?;
-    push_line(out, &Line::Close)?;
+    push_made(out, Line::Close)?;
     Ok(())
 }
 
