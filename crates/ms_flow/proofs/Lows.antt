@@ -9,6 +9,7 @@ use Rattle.ms_paths.specs.Flow.{Block as Run, IsReached, IsClosed}
 use Rattle.ms_flow.specs.Table.{next_of}
 use Rattle.ms_flow.specs.Flow.{walked, order_of, place_of}
 use Rattle.ms_flow.specs.Loops.{FallsTo, FallsOver, IsLeast, IsLow, AreLow, FallsBack}
+use Rattle.ms_flow.proofs.Listed.{left_few}
 use Rattle.ms_flow.proofs.Orders.{order_reached, place_below, placed}
 use Rattle.ms_flow.proofs.Rises.{falls_first, falls_over}
 
@@ -87,11 +88,12 @@ pub none_low : (g : List Run) → IsClosed g → (lows : List ℕ) (n : ℕ) →
 none_low g closed lows n blocks le = record { blocks = blocks; have_low = λ b r from. let lt = place_within g closed b r in absurd (omega arith) }
 
 -- what a low tells
-pub low_told : (g : List Run) → IsClosed g → (lows : List ℕ) (b place : ℕ) → AreLow g 0 lows → length (walked g).left ≤ length g → order_of g b ≡ Some place → (get_or lows b 0 ≤ place) ↔ FallsBack g b
-low_told g closed lows b place are few e =
+pub low_told : (g : List Run) → IsClosed g → (lows : List ℕ) (b place : ℕ) → AreLow g 0 lows → order_of g b ≡ Some place → (get_or lows b 0 ≤ place) ↔ FallsBack g b
+low_told g closed lows b place are e =
     let r = (order_reached g closed b).0 (ap is_some e) in
     let is : place_of g b ≡ place = ap (λ o. unwrap_or o 0) e in
     let lt = place_below g b place e in
+    let few = left_few g closed in
     let low = get_or lows b 0 in
     let f = are.have_low b r (omega arith) in (
       λ le. (

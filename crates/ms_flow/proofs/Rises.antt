@@ -95,8 +95,7 @@ path_risen g o b (a ∷ p) h x i =
 reached_risen : (g : List Run) → IsOrder g (place_of g) → (b : ℕ) → IsReached g b → RisesTo g 0 b
 reached_risen g o b r = path_risen g o b r.0 r.1 b (here b r.0)
 
--- Where an edge leads to x from a block to which b rises, b rises to x, falls to x, or x is one to which no edge falls from there: then it
--- lies on the rise.
+-- An edge from a block c to which b rises goes up, or leads back to a block on each path to c: to one on the rise, or to one before b.
 edge_rises : (g : List Run) → IsOrder g (place_of g) → (b : ℕ) → RisesTo g 0 b → (c x : ℕ) → RisesTo g b c → HasEdge g c x →
     RisesTo g b x ⊎ ((h : ℕ) × FallsTo g b h × (place_of g h ≤ place_of g b))
 edge_rises g o b r c x s e =
@@ -119,7 +118,7 @@ walk_rises g o b r x [] h = inl (record { way = []; rise = h })
 walk_rises g o b r x (c ∷ w) h =
     ⊎_elim (λ (s : RisesTo g b c). edge_rises g o b r c x s h.0) (λ (t : (h : ℕ) × FallsTo g b h × (place_of g h ≤ place_of g b)). inr t) (walk_rises g o b r c w h.1)
 
--- a walk back to b falls behind it
+-- on a walk that leads from b back to it there is such an edge
 pub cycle_falls : (g : List Run) → IsOrder g (place_of g) → (b : ℕ) → IsOnCycle g b → FallsBack g b
 cycle_falls g o b k =
     let c = k.1.0 in
@@ -132,7 +131,7 @@ cycle_falls g o b k =
           (walk_rises g o b (reached_risen g o b k.0) c w walk.1),
     )
 
--- where b falls to a block that is not behind it, that block rises to b
+-- a block to which b falls, and that is not behind b, rises to b
 back_rises : (g : List Run) → IsOrder g (place_of g) → (b h : ℕ) → RisesTo g 0 b → FallsTo g b h → place_of g h ≤ place_of g b → RisesTo g h b
 back_rises g o b h r t le =
     let path = rise_path g b t.top t.way r.way t.rise (entry_path g b r.way r.rise) in
@@ -147,7 +146,7 @@ back_rises g o b h r t le =
     (Contains-append_cases (t.top ∷ t.way) r.way h (over (t.way ++ r.way) path)))
     (o.edge t.top h (t.way ++ r.way, path) t.edge)
 
--- a fall, and a rise back
+-- a fall and a rise make a cycle
 round : (g : List Run) (b h : ℕ) (w : List ℕ) → FallsTo g b h → IsRise g h b w → (c : ℕ) × (v : List ℕ) × IsWalk g b b (c ∷ v)
 round g b h [] t r = (t.top, t.way, (subst (HasEdge g t.top) r t.edge, rise_walk g b t.top t.way t.rise))
 round g b h (c ∷ w) t r = (c, w ++ t.top ∷ t.way, (r.0, walk_over g b h c w (t.top ∷ t.way) (rise_walk g h c w r.2) (t.edge, rise_walk g b t.top t.way t.rise)))

@@ -70,7 +70,6 @@ fn lows(
 fn falls_back(table: &Table, order: &[Option<u32>], lows: &[u32], b: u32) -> bool
     requires closed { IsClosed table.now }
     requires ordered { AreOrdered table.now order.now }
-    requires few { length (walked table.now).left ≤ length table.now }
     requires lows { AreLow table.now 0 lows.now }
     requires b { b < length table.now }
     ensures { IsTrue result ↔ FallsBack table.now b }

@@ -10,7 +10,7 @@ pub returns-in-Some : goal.returns-in-Some
 returns-in-Some c =
     let g = c.args.table.now in
     let is : order_of g c.args.b ≡ Some c.in-Some.place = sym (c.requires.ordered.places c.args.b c.requires.b) ∙ c.in-Some.is in
-    let told = low_told g c.requires.closed c.args.lows.now c.args.b c.in-Some.place c.requires.lows c.requires.few is in
+    let told = low_told g c.requires.closed c.args.lows.now c.args.b c.in-Some.place c.requires.lows is in
     (λ t. told.0 (leb-true _ _ t), λ f. le-leb _ _ (told.1 f))
 
 pub returns-in-None : goal.returns-in-None

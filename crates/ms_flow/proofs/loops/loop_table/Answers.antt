@@ -1,20 +1,8 @@
-use Rattle.std.proofs.Common.{◌≡◌, length, sym, ap, ◌∙◌, arith, length-set}
-use Rattle.std.proofs.lemmas.List.{length-reverse}
-use Rattle.ms_flow.specs.Flow.{walked}
+use Rattle.std.proofs.Common.{◌∙◌, arith, length-set}
 use Rattle.ms_flow.specs.Loops.{FallsBack}
-use Rattle.ms_flow.proofs.Paths.{entry_done, told_more}
+use Rattle.ms_flow.proofs.Paths.{told_more}
 use Rattle.ms_flow.proofs.Rises.{cycle_falls, falls_cycle}
 use Rattle.ms_flow.proofs.loops.loop_table.Goals as goal
-
-pub falls_back-requires-clause-few : goal.falls_back-requires-clause-few
-falls_back-requires-clause-few c =
-    let g = c.args.table.now in
-    let size = length-reverse c.left-left.result.now in
-    let left : length c.left-left.result.now ≡ length (walked g).left = sym size ∙ ap length (c.left-left.ensures.left ∙ ap (λ w. w.left) c.requires.walked) in
-    let seen = ap (λ w. length w.seen) c.requires.walked in
-    let sized = (entry_done g c.requires.closed).sized in
-    let few = c.left-left.ensures.few in
-    omega arith
 
 pub loop-b-preserved : goal.loop-b-preserved
 loop-b-preserved c =
