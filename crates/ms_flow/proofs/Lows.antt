@@ -1,6 +1,6 @@
 -- The least places to which blocks fall, and the order of the pass that finds them.
-use Rattle.std.proofs.Common.{◌≡◌, ℕ, zero, suc, ◌+◌, ◌<◌, ◌≤◌, ◌⊎◌, ◌↔◌, List, [], ◌∷◌, length, get_or, set, min, refl, sym, ap, ◌∙◌, subst, inl, inr, ⊎_elim, arith, length-set, get_or-set_same, get_or-set_other}
-use Rattle.std.specs.Prelude.{Contains, Some, slice_get, unwrap_or, is_some}
+use Rattle.std.proofs.Common.{◌≡◌, ℕ, ◌+◌, ◌<◌, ◌≤◌, ◌⊎◌, ◌↔◌, List, length, get_or, set, min, sym, ap, ◌∙◌, subst, inl, inr, ⊎_elim, arith, length-set, get_or-set_same, get_or-set_other}
+use Rattle.std.specs.Prelude.{Some, slice_get, unwrap_or, is_some}
 use Rattle.std.proofs.lemmas.Bool.{cases_eq, cases_lt}
 use Rattle.std.proofs.lemmas.List.{get_or_default}
 use Rattle.std.proofs.lemmas.List.Elements.{Contains-get_or}
@@ -32,15 +32,15 @@ abbrev pub FallsAmong : List Run → ℕ → ℕ → ℕ → Type 0
 FallsAmong g b count h = (k : ℕ) × (k < count) × FallsOver g b (get_or (next_of g b) k 0) h
 
 -- over one more edge
-pub one_edge_low : (g : List Run) (b k c x y : ℕ) → c ≡ get_or (next_of g b) k 0 → IsLeast g (FallsAmong g b k) x → IsLeast g (FallsOver g b c) y → IsLeast g (FallsAmong g b (k + 1)) (min x y)
-one_edge_low g b k c x y is f over =
-    least_min g (FallsAmong g b k) (FallsOver g b c) (FallsAmong g b (k + 1)) x y f over
+pub one_edge_low : (g : List Run) (b k x y : ℕ) → IsLeast g (FallsAmong g b k) x → IsLeast g (FallsOver g b (get_or (next_of g b) k 0)) y → IsLeast g (FallsAmong g b (k + 1)) (min x y)
+one_edge_low g b k x y f over =
+    least_min g (FallsAmong g b k) (FallsOver g b (get_or (next_of g b) k 0)) (FallsAmong g b (k + 1)) x y f over
     (λ h r. ⊎_elim
-    (λ (e : r.0 ≡ k). inr (subst (λ d. FallsOver g b d h) (ap (λ j. get_or (next_of g b) j 0) e ∙ sym is) r.2))
+    (λ (e : r.0 ≡ k). inr (subst (λ j. FallsOver g b (get_or (next_of g b) j 0) h) e r.2))
     (λ (n : r.0 ≡ k → ⊥). let lt = r.1 in inl (r.0, omega arith, r.2))
     (cases_eq r.0 k))
     (λ h r. let lt = r.1 in (r.0, omega arith, r.2))
-    (λ h r. (k, omega arith, subst (λ d. FallsOver g b d h) is r))
+    (λ h r. (k, omega arith, r))
 
 -- over all of them
 pub all_edges_low : (g : List Run) (b count low : ℕ) → count ≡ length (next_of g b) → IsLeast g (FallsAmong g b count) low → IsLow g b low

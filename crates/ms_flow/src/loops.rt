@@ -3,6 +3,7 @@
 // a block with an edge back to it or to one before it.
 ghost use Rattle.std.specs.Prelude.{◌≡◌, ◌≤◌, ◌<◌, ◌+◌, ◌↔◌, ℕ, IfOk, IsTrue, length, reverse, slice_index};
 ghost use Rattle.ms_paths.specs.Flow.{HasEdge, IsClosed, IsReached, IsReducible};
+ghost use Rattle.ms_flow.specs.Table.{next_of};
 ghost use Rattle.ms_flow.specs.Flow.{AreCycles, AreOrdered, place_of, walked};
 ghost use Rattle.ms_flow.specs.Loops.{AreLow, FallsBack, FallsOver, IsLeast, IsLow};
 
@@ -12,17 +13,18 @@ use crate::walker::Walker;
 use ms_ir::NoMemory;
 use std::alloc::Global;
 
-// The least place to which a block falls over one of its edges, where the block that the edge leads to has its low.
-fn low_over(table: &Table, order: &[Option<u32>], lows: &[u32], from: u32, to: u32) -> u32
+// The least place to which a block falls over the edge at a slot, where the block that it leads to has its low.
+fn low_over(table: &Table, order: &[Option<u32>], lows: &[u32], b: u32, slot: u32) -> u32
     requires ordered { AreOrdered table.now order.now }
     requires blocks { length lows.now ≡ length table.now }
-    requires from { from < length table.now }
-    requires to { to < length table.now }
-    requires low { place_of table.now from < place_of table.now to → IsLow table.now to (slice_index lows.now to) }
-    ensures { IsLeast table.now (FallsOver table.now from to) result }
+    requires b { b < length table.now }
+    requires slot { slot < length (next_of table.now b) }
+    requires low { let to = slice_index (next_of table.now b) slot in place_of table.now b < place_of table.now to → IsLow table.now to (slice_index lows.now to) }
+    ensures { IsLeast table.now (FallsOver table.now b (slice_index (next_of table.now b) slot)) result }
 {
+    let to = table.at(b, slot);
     let place = order[to as usize].unwrap_or(0);
-    if place <= order[from as usize].unwrap_or(0) {
+    if place <= order[b as usize].unwrap_or(0) {
         place
     } else {
         lows[to as usize]
@@ -40,7 +42,7 @@ fn low_of(table: &Table, order: &[Option<u32>], lows: &[u32], b: u32) -> u32
 {
     let mut low = table.len();
     for slot in 0..table.count(b) {
-        low = low.min(low_over(table, order, lows, b, table.at(b, slot)));
+        low = low.min(low_over(table, order, lows, b, slot));
     }
     low
 }
@@ -66,20 +68,6 @@ fn lows(
     Ok(lows)
 }
 
-// Whether a block is reached and falls to itself or to one before it.
-fn falls_back(table: &Table, order: &[Option<u32>], lows: &[u32], b: u32) -> bool
-    requires closed { IsClosed table.now }
-    requires ordered { AreOrdered table.now order.now }
-    requires lows { AreLow table.now 0 lows.now }
-    requires b { b < length table.now }
-    ensures { IsTrue result ↔ FallsBack table.now b }
-{
-    match order[b as usize] {
-        Some(place) => lows[b as usize] <= place,
-        None => false,
-    }
-}
-
 /// For each block whether it is on a cycle of reached blocks, where the graph is reducible.
 pub fn loop_table(
     alloc: Global,
@@ -98,7 +86,10 @@ pub fn loop_table(
     let lows = lows(alloc, table, order, left)?;
     let mut cyclic = Vec::from_elem(alloc, false, table.len() as usize)?;
     for b in 0..table.len() {
-        cyclic[b as usize] = falls_back(table, order, lows.as_slice(), b);
+        cyclic[b as usize] = match order[b as usize] {
+            Some(place) => lows[b as usize] <= place,
+            None => false,
+        };
     }
     Ok(cyclic)
 }

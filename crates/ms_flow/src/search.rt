@@ -60,12 +60,7 @@ fn is_on_cycle(table: &Table, walker: &mut Walker, order: &[Option<u32>], b: u32
 }
 
 /// Writes for each block whether it is on a cycle of reached blocks, by a walk from each.
-pub fn cycles(
-    table: &Table,
-    walker: &mut Walker,
-    order: &[Option<u32>],
-    cyclic: &mut Vec<bool>,
-)
+pub fn cycles(table: &Table, walker: &mut Walker, order: &[Option<u32>], cyclic: &mut Vec<bool>)
     requires closed { IsClosed table.now }
     requires blocks { length walker.old.seen ≡ length table.now }
     requires ordered { AreOrdered table.now order.now }

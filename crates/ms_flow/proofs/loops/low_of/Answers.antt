@@ -1,4 +1,4 @@
-use Rattle.std.proofs.Common.{◌+◌, ◌∷◌, sym, subst, arith}
+use Rattle.std.proofs.Common.{◌+◌, ◌∷◌, get_or, sym, subst, arith}
 use Rattle.std.proofs.lemmas.List.Elements.{Contains-get_or}
 use Rattle.ms_paths.specs.Flow.{HasEdge}
 use Rattle.ms_flow.specs.Table.{next_of}
@@ -10,16 +10,17 @@ pub low_over-requires-clause-low : goal.low_over-requires-clause-low
 low_over-requires-clause-low c = λ up.
     let g = c.args.table.now in
     let b = c.args.b in
+    let to = get_or (next_of g b) c.loop-slot.slot 0 in
     let count = c.count-slot-end.ensures.count in
-    let edge : HasEdge g b c.at.result = subst (HasEdge g b) (sym c.at.ensures.target) (Contains-get_or (next_of g b) c.loop-slot.slot 0 (omega arith)) in
-    c.requires.behind.have_low c.at.result (b ∷ c.requires.reached.0, (edge, c.requires.reached.1)) (omega arith)
+    let edge : HasEdge g b to = Contains-get_or (next_of g b) c.loop-slot.slot 0 (omega arith) in
+    c.requires.behind.have_low to (b ∷ c.requires.reached.0, (edge, c.requires.reached.1)) (omega arith)
 
 pub loop-slot-preserved : goal.loop-slot-preserved
 loop-slot-preserved c =
     let g = c.args.table.now in
     let b = c.args.b in
     let k = c.loop-slot.slot in
-    subst (IsLeast g (FallsAmong g b (k + 1))) (sym c.min-low.ensures) (one_edge_low g b k c.at.result c.loop-slot.low c.low_over.result c.at.ensures.target c.loop-slot.invariant c.low_over.ensures)
+    subst (IsLeast g (FallsAmong g b (k + 1))) (sym c.min-low.ensures) (one_edge_low g b k c.loop-slot.low c.low_over.result c.loop-slot.invariant c.low_over.ensures)
 
 pub returns : goal.returns
 returns c =

@@ -15,12 +15,12 @@ invariant_of-result c =
     let g = c.in_ok-table.table in
     let told = c.is_reducible-reducible.ensures.told in
     let cyclic : AreCycles g c.if-not-reducible.cyclic.items = elim c.if-not-reducible.branch [
-      then-not-reducible w ↦ rw w.cyclic-is w.cycles.ensures.cycles
-    | else-not-reducible w ↦ rw w.cyclic-is (c.in_ok-cyclic.ensures.cycles (told.0 w.if-not-reducible.false))
+      | then-not-reducible w ↦ rw w.cyclic-is w.cycles.ensures.cycles
+      | else-not-reducible w ↦ rw w.cyclic-is (c.in_ok-cyclic.ensures.cycles (told.0 w.if-not-reducible.false))
     ] in
     let walker : length c.if-not-reducible.walker.seen ≡ length g = elim c.if-not-reducible.branch [
-      then-not-reducible w ↦ rw w.walker-is w.cycles.ensures.blocks
-    | else-not-reducible w ↦ rw w.walker-is c.is_reducible-reducible.ensures.blocks
+      | then-not-reducible w ↦ rw w.walker-is w.cycles.ensures.blocks
+      | else-not-reducible w ↦ rw w.walker-is c.is_reducible-reducible.ensures.blocks
     ] in
     record {
       closed = c.in_ok-table.ensures.closed;
