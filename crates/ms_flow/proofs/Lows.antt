@@ -8,13 +8,13 @@ use Rattle.std.proofs.lemmas.Option.{slice_get_within, same_Some}
 use Rattle.ms_paths.specs.Flow.{Block as Run, IsReached, IsClosed}
 use Rattle.ms_flow.specs.Table.{next_of}
 use Rattle.ms_flow.specs.Flow.{walked, order_of, place_of}
-use Rattle.ms_flow.specs.Loops.{FallsTo, FallsOver, IsLeast, IsLow, AreLow, FallsBack}
+use Rattle.ms_flow.specs.Loops.{FallsTo, FallsOver, IsLeast, IsLow, AreLow}
 use Rattle.ms_flow.proofs.Listed.{left_few}
 use Rattle.ms_flow.proofs.Orders.{order_reached, place_below, placed}
-use Rattle.ms_flow.proofs.Rises.{falls_first, falls_over}
+use Rattle.ms_flow.proofs.Rises.{FallsBack, falls_first, falls_over}
 
 -- the least place of two lots of blocks
-pub least_min : (g : List Run) (F G H : ℕ → Type 0) (x y : ℕ) → IsLeast g F x → IsLeast g G y → ((h : ℕ) → H h → F h ⊎ G h) → ((h : ℕ) → F h → H h) → ((h : ℕ) → G h → H h) → IsLeast g H (min x y)
+least_min : (g : List Run) (F G H : ℕ → Type 0) (x y : ℕ) → IsLeast g F x → IsLeast g G y → ((h : ℕ) → H h → F h ⊎ G h) → ((h : ℕ) → F h → H h) → ((h : ℕ) → G h → H h) → IsLeast g H (min x y)
 least_min g F G H x y f k split left right = record {
   least = λ h r. ⊎_elim (λ (i : F h). let low = f.least h i in omega arith) (λ (i : G h). let low = k.least h i in omega arith) (split h r);
   is = ⊎_elim
@@ -80,7 +80,7 @@ more_low g closed b low lows r lt is are =
           (cases_eq x b);
     }
 
-pub place_within : (g : List Run) → IsClosed g → (b : ℕ) → IsReached g b → place_of g b < length (walked g).left
+place_within : (g : List Run) → IsClosed g → (b : ℕ) → IsReached g b → place_of g b < length (walked g).left
 place_within g closed b r = slice_get_within (walked g).left (place_of g b) b (placed g closed b r)
 
 -- behind all blocks there is none

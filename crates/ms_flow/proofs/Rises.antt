@@ -4,8 +4,12 @@ use Rattle.std.specs.Prelude.{Contains}
 use Rattle.std.proofs.lemmas.List.Elements.{Contains-append_cases}
 use Rattle.ms_paths.specs.Flow.{Block as Run, HasEdge, IsPath, IsReached, IsWalk, IsOnEveryPath, IsOrder}
 use Rattle.ms_flow.specs.Flow.{place_of, IsOnCycle}
-use Rattle.ms_flow.specs.Loops.{IsRise, FallsTo, FallsOver, FallsBack}
+use Rattle.ms_flow.specs.Loops.{IsRise, FallsTo, FallsOver}
 use Rattle.ms_flow.proofs.Members.{here, there, in_none, in_cons}
+
+-- a reached block falls to itself or to one before it in the order
+abbrev pub FallsBack : List Run → ℕ → Type 0
+FallsBack g b = IsReached g b × ((h : ℕ) × FallsTo g b h × (place_of g h ≤ place_of g b))
 
 pub record RisesTo (g : List Run) (a b : ℕ) : Type 0 where
   pub way : List ℕ

@@ -16,7 +16,7 @@ pub record FallsTo (g : List Run) (b h : ℕ) : Type 0 where
   pub edge : HasEdge g top h
   pub falls : place_of g h ≤ place_of g top
 
--- the same, where the first edge leads from b to c
+-- the same, over an edge from b to c first
 abbrev pub FallsOver : List Run → ℕ → ℕ → ℕ → Type 0
 FallsOver g b c h = ((c ≡ h) × (place_of g h ≤ place_of g b)) ⊎ ((place_of g b < place_of g c) × FallsTo g c h)
 
@@ -33,7 +33,3 @@ IsLow g b low = IsLeast g (FallsTo g b) low
 pub record AreLow (g : List Run) (from : ℕ) (lows : List ℕ) : Type 0 where
   pub blocks : length lows ≡ length g
   pub have_low : (b : ℕ) → IsReached g b → from ≤ place_of g b → IsLow g b (slice_index lows b)
-
--- a reached block falls to itself or to one before it in the order
-abbrev pub FallsBack : List Run → ℕ → Type 0
-FallsBack g b = IsReached g b × ((h : ℕ) × FallsTo g b h × (place_of g h ≤ place_of g b))

@@ -1,11 +1,11 @@
 // Which blocks of a reducible graph are on a cycle, by one pass over its edges. There an edge that does not go up in the order
 // leads to a block that every path to its beginning passes, so a block is on a cycle exactly where edges that go up lead from it to
 // a block with an edge back to it or to one before it.
-ghost use Rattle.std.specs.Prelude.{◌≡◌, ◌≤◌, ◌<◌, ◌+◌, ◌↔◌, ℕ, IfOk, IsTrue, length, reverse, slice_index};
-ghost use Rattle.ms_paths.specs.Flow.{HasEdge, IsClosed, IsReached, IsReducible};
+ghost use Rattle.std.specs.Prelude.{◌≡◌, ◌<◌, ◌+◌, IfOk, length, reverse, slice_index};
+ghost use Rattle.ms_paths.specs.Flow.{IsClosed, IsReached, IsReducible};
 ghost use Rattle.ms_flow.specs.Table.{next_of};
 ghost use Rattle.ms_flow.specs.Flow.{AreCycles, AreOrdered, place_of, walked};
-ghost use Rattle.ms_flow.specs.Loops.{AreLow, FallsBack, FallsOver, IsLeast, IsLow};
+ghost use Rattle.ms_flow.specs.Loops.{AreLow, FallsOver, IsLeast, IsLow};
 
 use crate::laws::order_told;
 use crate::table::Table;

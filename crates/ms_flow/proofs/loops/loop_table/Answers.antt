@@ -3,11 +3,10 @@ use Rattle.std.specs.Prelude.{None, is_some}
 use Rattle.std.proofs.lemmas.Bool.{both_ways, leb-true, le-leb}
 use Rattle.std.proofs.lemmas.List.{get_or_default}
 use Rattle.ms_flow.specs.Flow.{order_of}
-use Rattle.ms_flow.specs.Loops.{FallsBack}
 use Rattle.ms_flow.proofs.Lows.{low_told}
 use Rattle.ms_flow.proofs.Orders.{order_reached}
 use Rattle.ms_flow.proofs.Paths.{told_more}
-use Rattle.ms_flow.proofs.Rises.{cycle_falls, falls_cycle}
+use Rattle.ms_flow.proofs.Rises.{FallsBack, cycle_falls, falls_cycle}
 use Rattle.ms_flow.proofs.loops.loop_table.Goals as goal
 use Rattle.ms_flow.proofs.loops.loop_table.Goals.{in-Some, in-None}
 

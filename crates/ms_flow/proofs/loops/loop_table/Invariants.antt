@@ -1,5 +1,5 @@
 use Rattle.std.proofs.Common.{◌≡◌, ◌<◌, ◌↔◌, ℕ, true, false, length, get_or}
-use Rattle.ms_flow.specs.Loops.{FallsBack}
+use Rattle.ms_flow.proofs.Rises.{FallsBack}
 use Rattle.ms_flow.proofs.loops.loop_table.Given as goal
 
 -- the first blocks are told
