@@ -7,3 +7,5 @@ pub mod Edges
 pub mod Orders
 pub mod Listed
 pub mod Same
+pub mod Rises
+pub mod Lows

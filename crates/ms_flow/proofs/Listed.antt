@@ -1,17 +1,19 @@
 -- Which edges a list of edges to a block holds.
-use Rattle.std.proofs.Common.{◌≡◌, ℕ, zero, suc, ◌+◌, ◌<◌, Bool, true, false, eqb, ◌⊎◌, List, [], ◌∷◌, ◌++◌, length, get_or, take, drop, refl, sym, ap, ◌∙◌, subst, inl, inr, ⊎_elim, arith, append_assoc}
+use Rattle.std.proofs.Common.{◌≡◌, ℕ, zero, suc, ◌+◌, ◌<◌, ◌≤◌, Bool, true, false, eqb, ◌⊎◌, List, [], ◌∷◌, ◌++◌, length, get_or, take, drop, refl, sym, ap, ◌∙◌, subst, inl, inr, ⊎_elim, arith, append_assoc}
 use Rattle.std.specs.Prelude.{Contains, Some, slice_get}
 use Rattle.std.proofs.lemmas.List.{take_all}
 use Rattle.std.proofs.lemmas.Option.{slice_get_within, get_or_from_slice_get, same_Some}
 use Rattle.std.proofs.lemmas.List.Elements.{Contains-append_cases, Contains-append_left, Contains-append_right}
 use Rattle.std.proofs.lemmas.Bool.{cases_Bool, both_ways, eq-eqb, eqb-true}
+use Rattle.std.proofs.lemmas.Map.Steps.{length-le_from_distinct_below}
+use Rattle.std.proofs.lemmas.Map.Views.{Contains-from_any}
 use Rattle.ms_paths.specs.Flow.{Block as Run, HasEdge, IsReached, IsOrder, IsOnEveryPath, IsClosed}
 use Rattle.ms_flow.specs.declared.sources.Source.{Source}
 use Rattle.ms_flow.specs.Table.{next_of}
 use Rattle.ms_flow.specs.Flow.{walked, has_reached, slots_to, edges_to, sources_of, in_slot_of, place_of, IsFine, IsBefore, AreListed}
 use Rattle.ms_flow.proofs.Edges.{edges_from}
-use Rattle.ms_flow.proofs.Paths.{entry_done, reached_told}
-use Rattle.ms_flow.proofs.Orders.{IsOverPath, fine_back, fine_order}
+use Rattle.ms_flow.proofs.Paths.{entry_done, reached_left, reached_told}
+use Rattle.ms_flow.proofs.Orders.{IsOverPath, fine_back, fine_order, left_once}
 
 abbrev edge : ℕ → ℕ → Source
 edge a k = record { from = a; slot = k }
@@ -119,6 +121,12 @@ reached_below g closed b r =
     let size = (entry_done g closed).sized in
     let seen = seen_below (walked g).seen b ((reached_told g closed b).1 r) in
     omega arith
+
+-- no more blocks are left than there are
+pub left_few : (g : List Run) → IsClosed g → length (walked g).left ≤ length g
+left_few g closed =
+    length-le_from_distinct_below (walked g).left (length g) (left_once g closed)
+    (λ x t. reached_below g closed x ((reached_left g closed x).0 (Contains-from_any eqb-true x (walked g).left t)))
 
 pub source_within : (g : List Run) (b : ℕ) (e : Source) → Contains (sources_of g b) e → e.from < length g
 source_within g b e h = let r = edges_hold (has_reached g) b 0 g e h in let from = r.from in let below = r.below in omega arith

@@ -1,9 +1,10 @@
 -- The order in which a walk has left the blocks.
-use Rattle.std.proofs.Common.{◌≡◌, ℕ, zero, suc, ◌+◌, ◌<◌, Bool, true, false, ◌⊎◌, ◌↔◌, List, [], ◌∷◌, length, replicate, refl, sym, ap, ◌∙◌, subst, inl, inr, ⊎_elim, arith, add-one}
+use Rattle.std.proofs.Common.{◌≡◌, ℕ, zero, suc, ◌+◌, ◌-◌, ◌<◌, Bool, true, false, ◌⊎◌, ◌↔◌, List, [], ◌∷◌, length, get_or, replicate, reverse, refl, sym, ap, ◌∙◌, subst, inl, inr, ⊎_elim, arith, add-one}
 use Rattle.std.specs.Prelude.{Contains, Option, Some, None, option_map, unwrap_or, is_some, nat_eq, slice_get, MatchOption}
 use Rattle.std.specs.List.{IsDistinct}
 use Rattle.std.proofs.lemmas.Bool.{cases_eq, both_ways, eq-eqb, ne_eqb}
-use Rattle.std.proofs.lemmas.Option.{slice_get_within, same_Some}
+use Rattle.std.proofs.lemmas.List.{get_or-reverse, reverse-reverse, length-reverse}
+use Rattle.std.proofs.lemmas.Option.{slice_get_within, slice_get-get_or, same_Some}
 use Rattle.ms_paths.specs.Flow.{Block as Run, HasEdge, IsPath, IsReached, IsOnEveryPath, IsOrder, IsClosed}
 use Rattle.ms_flow.specs.Flow.{walked, place_in, order_of, place_of, IsFine}
 use Rattle.ms_flow.proofs.Members.{here_is, there, in_none, in_cons, AreApart, distinct}
@@ -109,6 +110,12 @@ edge_order g closed a b reached e =
     r)
     (left_edge g (0 ∷ []) (replicate (length g) false) (walked g).left (entry_done g closed).left a b ((reached_left g closed a).1 reached) e)
 
+-- a reached block stands at its place
+pub placed : (g : List Run) → IsClosed g → (b : ℕ) → IsReached g b → slice_get (walked g).left (place_of g b) ≡ Some b
+placed g closed b r =
+    let p = place_some (walked g).left b ((reached_left g closed b).1 r) in
+    subst (λ k. slice_get (walked g).left k ≡ Some b) (sym (ap (λ o. unwrap_or o 0) p.1)) (place_get (walked g).left b p.0 p.1)
+
 -- exactly the reached blocks have a place
 pub order_reached : (g : List Run) → IsClosed g → (b : ℕ) → (is_some (order_of g b) ≡ true) ↔ IsReached g b
 order_reached g closed b = (
@@ -160,6 +167,29 @@ left_apart g from A (x ∷ l) left = (left.0, left_apart g from A l left.2)
 -- no block is left twice
 pub left_once : (g : List Run) → IsClosed g → IsDistinct nat_eq (walked g).left
 left_once g closed = distinct (walked g).left (left_apart g (0 ∷ []) (replicate (length g) false) (walked g).left (entry_done g closed).left)
+
+-- where no block stands twice, each stands at its place
+apart_place : (l : List ℕ) → AreApart l → (i b : ℕ) → slice_get l i ≡ Some b → place_in l b ≡ Some i
+apart_place [] a i b e = cc
+apart_place (x ∷ l) a zero b e = place_here x l b (same_Some x b e)
+apart_place (x ∷ l) a (suc i) b e =
+    let apart : x ≡ b → ⊥ = λ s. a.0 (subst (λ k. Contains l k) (sym s) (get_in l i b e)) in
+    place_next x l b i apart (apart_place l a.1 i b e) ∙ ap Some (add-one i)
+
+-- the blocks that were left, the first one first, have falling places
+pub left_place : (g : List Run) → IsClosed g → (left : List ℕ) → reverse left ≡ (walked g).left → (k : ℕ) → k < length left →
+    IsReached g (get_or left k 0) × (place_of g (get_or left k 0) + (k + 1) ≡ length left)
+left_place g closed left all k lt =
+    let l = (walked g).left in
+    let size = length-reverse left in
+    let same : length l ≡ length left = ap length (sym all) ∙ size in
+    let i = length left - 1 - k in
+    let read : get_or left k 0 ≡ get_or l i 0 =
+    ap (λ m. get_or m k 0) (sym (reverse-reverse left)) ∙ get_or-reverse (reverse left) k 0 (omega arith) ∙ ap (λ n. get_or (reverse left) (n - 1 - k) 0) size ∙ ap (λ m. get_or m i 0) all in
+    let b = get_or left k 0 in
+    let stands : slice_get l i ≡ Some b = slice_get-get_or l i 0 (omega arith) ∙ ap Some (sym read) in
+    let place : place_of g b ≡ i = ap (λ o. unwrap_or o 0) (apart_place l (left_apart g (0 ∷ []) (replicate (length g) false) l (entry_done g closed).left) i b stands) in
+    ((reached_left g closed b).0 (get_in l i b stands), omega arith)
 
 pub place_below : (g : List Run) (b place : ℕ) → order_of g b ≡ Some place → place < length (walked g).left
 place_below g b place e = slice_get_within (walked g).left place b (place_get (walked g).left b place e)

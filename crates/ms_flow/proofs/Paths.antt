@@ -1,6 +1,6 @@
 -- What walks tell of paths.
-use Rattle.std.proofs.Common.{◌≡◌, ℕ, zero, suc, ◌+◌, ◌<◌, Bool, true, false, ◌⊎◌, ◌↔◌, List, [], ◌∷◌, ◌++◌, length, get_or, set, replicate, refl, sym, ap, ◌∙◌, subst, inl, inr, ⊎_elim, arith, length-set, get_or-set_same, get_or-set_other}
-use Rattle.std.proofs.lemmas.List.{length-replicate, get_or_push, get_or_append_left}
+use Rattle.std.proofs.Common.{◌≡◌, ℕ, zero, suc, ◌+◌, ◌<◌, Bool, true, false, ◌⊎◌, ◌↔◌, List, [], ◌∷◌, length, get_or, set, replicate, refl, sym, ap, ◌∙◌, subst, inl, inr, ⊎_elim, arith, length-set, get_or-set_same, get_or-set_other}
+use Rattle.std.proofs.lemmas.List.{length-replicate}
 use Rattle.std.specs.Prelude.{Contains}
 use Rattle.std.proofs.lemmas.Bool.{cases_Bool, cases_eq, both_ways}
 use Rattle.ms_paths.specs.Flow.{Block as Run, HasEdge, IsPath, IsReached, IsOnEveryPath, IsWalk, IsClosed}
@@ -122,15 +122,15 @@ cycle_told g closed b = (
     d = beyond_done g closed b
 
 -- what is told of the first blocks, and of one more
-pub told_more : (P : ℕ → Type 0) (tests : List Bool) (n : ℕ) (test : Bool) → length tests ≡ n → ((x : ℕ) → x < n → (get_or tests x false ≡ true) ↔ P x) → ((test ≡ true) ↔ P n) →
-    (x : ℕ) → x < n + 1 → (get_or (tests ++ test ∷ []) x false ≡ true) ↔ P x
-told_more P tests n test size before last x lt =
+pub told_more : (P : ℕ → Type 0) (tests : List Bool) (n : ℕ) (test : Bool) → n < length tests → ((x : ℕ) → x < n → (get_or tests x false ≡ true) ↔ P x) → ((test ≡ true) ↔ P n) →
+    (x : ℕ) → x < n + 1 → (get_or (set tests n test) x false ≡ true) ↔ P x
+told_more P tests n test within before last x lt =
     ⊎_elim
     (λ (e : x ≡ n).
-    let here : get_or (tests ++ test ∷ []) x false ≡ test = ap (λ k. get_or (tests ++ test ∷ []) k false) e ∙ get_or_push tests test false n size in
+    let here : get_or (set tests n test) x false ≡ test = ap (λ k. get_or (set tests n test) k false) e ∙ get_or-set_same tests n test false within in
     (λ t. subst P (sym e) (last.0 (sym here ∙ t)), λ p. here ∙ last.1 (subst P e p)))
     (λ (n' : x ≡ n → ⊥).
-    let there : get_or (tests ++ test ∷ []) x false ≡ get_or tests x false = get_or_append_left tests (test ∷ []) false x (omega arith) in
+    let there : get_or (set tests n test) x false ≡ get_or tests x false = get_or-set_other tests n x test false n' in
     let old = before x (omega arith) in
     (λ t. old.0 (sym there ∙ t), λ p. there ∙ old.1 p))
     (cases_eq x n)

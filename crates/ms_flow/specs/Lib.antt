@@ -1,3 +1,4 @@
 pub mod Flow
+pub mod Loops
 pub mod Table
 pub mod Walk

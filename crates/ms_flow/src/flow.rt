@@ -4,6 +4,7 @@ ghost use Rattle.ms_paths.specs.Flow.{IsClosed, IsOnEveryPath, IsReached, IsRedu
 ghost use Rattle.ms_ir.specs.Graph.{graph_of};
 ghost use Rattle.ms_flow.specs.Table.{edges_of, next_of};
 
+use crate::loops::loop_table;
 use crate::order::{is_reducible, order_table};
 use crate::search::{cuts, cycles, first_walk};
 use crate::sources::Sources;
@@ -66,8 +67,11 @@ impl Flow {
         let mut walker = first_walk(alloc, &table)?;
         let sources = Sources::of(alloc, &table, &walker)?;
         let order = order_table(alloc, &table, &walker)?;
-        let cyclic = cycles(alloc, &table, &mut walker, order.as_slice())?;
+        let mut cyclic = loop_table(alloc, &table, &walker, order.as_slice())?;
         let reducible = is_reducible(&table, &mut walker, order.as_slice(), &sources);
+        if !reducible {
+            cycles(&table, &mut walker, order.as_slice(), &mut cyclic);
+        }
         Ok(Flow {
             table,
             sources,

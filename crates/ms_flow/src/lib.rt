@@ -3,6 +3,7 @@
 
 mod flow;
 mod laws;
+mod loops;
 mod order;
 mod search;
 mod sources;

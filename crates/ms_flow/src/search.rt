@@ -59,22 +59,16 @@ fn is_on_cycle(table: &Table, walker: &mut Walker, order: &[Option<u32>], b: u32
     comes_back(table, walker, b)
 }
 
-/// For each block whether it is on a cycle of reached blocks.
-pub fn cycles(
-    alloc: Global,
-    table: &Table,
-    walker: &mut Walker,
-    order: &[Option<u32>],
-) -> Result<Vec<bool>, NoMemory>
+/// Writes for each block whether it is on a cycle of reached blocks, by a walk from each.
+pub fn cycles(table: &Table, walker: &mut Walker, order: &[Option<u32>], cyclic: &mut Vec<bool>)
     requires closed { IsClosed table.now }
     requires blocks { length walker.old.seen ≡ length table.now }
     requires ordered { AreOrdered table.now order.now }
-    ensures cycles { IfOk result (λ v. AreCycles table.now v.items) }
+    requires sized { length cyclic.old.items ≡ length table.now }
+    ensures cycles { AreCycles table.now cyclic.new.items }
     ensures blocks { length walker.new.seen ≡ length table.now }
 {
-    let mut cyclic = Vec::new(alloc);
     for b in 0..table.len() {
-        cyclic.push(is_on_cycle(table, walker, order, b))?;
+        cyclic[b as usize] = is_on_cycle(table, walker, order, b);
     }
-    Ok(cyclic)
 }
