@@ -4,8 +4,8 @@ ghost use Rattle.ms_ir.specs.Changes.{IsCopyThere};
 
 use crate::graph::{NO_EFFECTS, P, add, cut, is_conditional, load, no_blocks, put, put_at, take};
 use ms_ir::{
-    Arg, BlockNo, Entry, Func, FuncNo, Inst, InstNo, Items, Kind, LocalNo, Name, NoMemory, Steps, Term, Ty, Val,
-    kind_of, result_type,
+    Arg, BlockNo, Entry, Func, FuncNo, Inst, InstNo, Items, Kind, LocalNo, Name, NoMemory, Steps,
+    Term, Ty, Val, kind_of, result_type,
 };
 use std::alloc::Global;
 use std::process::Abort;

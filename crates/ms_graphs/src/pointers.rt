@@ -16,7 +16,8 @@ use ms_alias::{Alias, Loc, Root, tables_kept};
 use ms_flow::Flow;
 use ms_form::{Access, Form};
 use ms_ir::{
-    Arg, BlockNo, Effects, Entry, Func, FuncNo, GlobalNo, Inst, InstNo, Items, LocalNo, Name, Steps, Ty, Val,
+    Arg, BlockNo, Effects, Entry, Func, FuncNo, GlobalNo, Inst, InstNo, Items, LocalNo, Name,
+    Steps, Ty, Val,
 };
 use ms_session::Session;
 use ms_walk::walk;
@@ -168,7 +169,12 @@ fn straight(rt: &impl Abort, alloc: Global) -> Func {
 }
 
 // Expects the location that each of some instructions reads, and the one that it writes.
-fn expect_locations(rt: &impl Abort, f: &Func, alias: &Alias, rows: &[(u32, Option<Loc>, Option<Loc>)])
+fn expect_locations(
+    rt: &impl Abort,
+    f: &Func,
+    alias: &Alias,
+    rows: &[(u32, Option<Loc>, Option<Loc>)],
+)
     requires { IsAliasOf f.now alias.now }
 {
     for k in 0..rows.len() {
@@ -198,7 +204,11 @@ fn expect_meets(rt: &impl Abort, f: &Func, alias: &Alias, rows: &[(u32, Loc, boo
 {
     for k in 0..rows.len() {
         let (i, loc, writes, reads) = rows[k];
-        assert_eq!(rt; alias.may_write(f, InstNo(i), &loc), writes, "{k}: {i} writes");
+        assert_eq!(rt;
+            alias.may_write(f, InstNo(i), &loc),
+            writes,
+            "{k}: {i} writes"
+        );
         assert_eq!(rt; alias.may_read(f, InstNo(i), &loc), reads, "{k}: {i} reads");
     }
 }
@@ -209,7 +219,11 @@ fn expect_surely(rt: &impl Abort, f: &Func, alias: &Alias, rows: &[(u32, Root, i
 {
     for k in 0..rows.len() {
         let (i, root, byte, must) = rows[k];
-        assert_eq!(rt; alias.must_write(f, InstNo(i), root, byte), must, "{k}: {i} at {byte}");
+        assert_eq!(rt;
+            alias.must_write(f, InstNo(i), root, byte),
+            must,
+            "{k}: {i} at {byte}"
+        );
     }
 }
 
@@ -260,21 +274,60 @@ fn writers(rt: &impl Abort, f: &Func, alias: &Alias)
     requires { IsAliasOf f.now alias.now }
 {
     let rows = [
-        (bytes(P, 0, 4), [true, false, false, false, false, true, true]),
-        (bytes(A, 0, 4), [false, true, false, false, true, false, false]),
-        (bytes(A, 3, 2), [false, true, false, true, true, false, false]),
-        (bytes(A, 4, 4), [false, false, false, true, true, false, false]),
-        (bytes(A, 8, 1), [false, false, false, false, true, false, false]),
-        (bytes(A, -4, 4), [false, false, false, false, true, false, false]),
-        (bytes(A, 0, 0), [false, false, false, false, false, false, false]),
-        (bytes(B, 0, 4), [false, false, true, false, true, true, false]),
+        (
+            bytes(P, 0, 4),
+            [true, false, false, false, false, true, true],
+        ),
+        (
+            bytes(A, 0, 4),
+            [false, true, false, false, true, false, false],
+        ),
+        (
+            bytes(A, 3, 2),
+            [false, true, false, true, true, false, false],
+        ),
+        (
+            bytes(A, 4, 4),
+            [false, false, false, true, true, false, false],
+        ),
+        (
+            bytes(A, 8, 1),
+            [false, false, false, false, true, false, false],
+        ),
+        (
+            bytes(A, -4, 4),
+            [false, false, false, false, true, false, false],
+        ),
+        (
+            bytes(A, 0, 0),
+            [false, false, false, false, false, false, false],
+        ),
+        (
+            bytes(B, 0, 4),
+            [false, false, true, false, true, true, false],
+        ),
         (bytes(D, 0, 4), [false, true, true, true, true, true, false]),
-        (bytes(D, 4, 4), [false, true, true, true, false, true, false]),
-        (bytes(D, 0, 0), [false, false, false, false, false, false, false]),
+        (
+            bytes(D, 4, 4),
+            [false, true, true, true, false, true, false],
+        ),
+        (
+            bytes(D, 0, 0),
+            [false, false, false, false, false, false, false],
+        ),
         (bytes(E, 0, 4), [true, false, true, false, true, true, true]),
-        (global(0, 0, 4), [true, false, false, false, false, true, true]),
-        (global(0, 4, 4), [true, false, false, false, false, true, false]),
-        (global(1, 0, 4), [true, false, false, false, false, true, false]),
+        (
+            global(0, 0, 4),
+            [true, false, false, false, false, true, true],
+        ),
+        (
+            global(0, 4, 4),
+            [true, false, false, false, false, true, false],
+        ),
+        (
+            global(1, 0, 4),
+            [true, false, false, false, false, true, false],
+        ),
     ];
     expect_writers(rt, f, alias, 5, &rows);
 }
@@ -401,7 +454,14 @@ enum Change {
 }
 
 // Puts a call and notes it. Whether the captured allocas are others than before.
-fn put_call(rt: &impl Abort, alloc: Global, f: &mut Func, alias: &mut Alias, ptr: LocalNo, keeps: bool) -> bool
+fn put_call(
+    rt: &impl Abort,
+    alloc: Global,
+    f: &mut Func,
+    alias: &mut Alias,
+    ptr: LocalNo,
+    keeps: bool,
+) -> bool
     requires tables { IsAliasOf f.old alias.old }
     requires room { 1 ≤ f.old.spare }
     ensures tables { IsAliasOf f.new alias.new }
@@ -411,7 +471,12 @@ fn put_call(rt: &impl Abort, alloc: Global, f: &mut Func, alias: &mut Alias, ptr
     assert!(rt; f.block_count() > 0);
     assert!(rt; f.made() < u32::MAX);
     let place = f.count(BlockNo(0));
-    let i = f.put_inst(BlockNo(0), place, call(rt, alloc, ptr, keeps, NO_EFFECTS), Name::Absent);
+    let i = f.put_inst(
+        BlockNo(0),
+        place,
+        call(rt, alloc, ptr, keeps, NO_EFFECTS),
+        Name::Absent,
+    );
     alias.note_put(f, i)
 }
 
@@ -449,7 +514,13 @@ fn take_noted(rt: &impl Abort, f: &mut Func, alias: &mut Alias, i: InstNo) -> bo
     changed
 }
 
-fn make_change(rt: &impl Abort, alloc: Global, f: &mut Func, alias: &mut Alias, change: Change) -> bool
+fn make_change(
+    rt: &impl Abort,
+    alloc: Global,
+    f: &mut Func,
+    alias: &mut Alias,
+    change: Change,
+) -> bool
     requires tables { IsAliasOf f.old alias.old }
     requires room { 1 ≤ f.old.spare }
     ensures tables { IsAliasOf f.new alias.new }
@@ -463,7 +534,13 @@ fn make_change(rt: &impl Abort, alloc: Global, f: &mut Func, alias: &mut Alias, 
 
 // Makes some changes, and expects of each whether it changed the captured allocas, and whether A and B are captured then. What
 // instruction 5 may write and read elsewhere tells the same.
-fn changes(rt: &impl Abort, alloc: Global, f: &mut Func, alias: &mut Alias, rows: &[(Change, bool, bool, bool)])
+fn changes(
+    rt: &impl Abort,
+    alloc: Global,
+    f: &mut Func,
+    alias: &mut Alias,
+    rows: &[(Change, bool, bool, bool)],
+)
     requires tables { IsAliasOf f.old alias.old }
     requires few { length rows.now ≤ 16 }
     requires room { 16 ≤ f.old.spare }
@@ -472,7 +549,12 @@ fn changes(rt: &impl Abort, alloc: Global, f: &mut Func, alias: &mut Alias, rows
         let (row, changed, a, b) = rows[k];
         assert_eq!(rt; make_change(rt, alloc, f, alias, row), changed, "{k}");
         expect_captured(rt, alias, &[false, a, b, false, false]);
-        expect_meets(rt, f, alias, &[(5, bytes(A, 0, 4), a, a), (5, bytes(B, 0, 4), b, b)]);
+        expect_meets(
+            rt,
+            f,
+            alias,
+            &[(5, bytes(A, 0, 4), a, a), (5, bytes(B, 0, 4), b, b)],
+        );
     }
 }
 
@@ -562,7 +644,12 @@ fn still(rt: &impl Abort, f: &Func, alias: &Alias)
 {
     expect_roots(rt, f, alias, &[(Root::Local(C), true, false)]);
     expect_captured(rt, alias, &[false, true, false, false]);
-    expect_surely(rt, f, alias, &[(3, Root::Local(C), 0, true), (3, Root::Local(A), 0, false)]);
+    expect_surely(
+        rt,
+        f,
+        alias,
+        &[(3, Root::Local(C), 0, true), (3, Root::Local(A), 0, false)],
+    );
     let rows = [
         (3, bytes(C, 0, 4), true, false),
         (3, bytes(C, 4, 4), false, false),

@@ -3,7 +3,9 @@ ghost use Rattle.std.specs.Prelude.{◌≡◌};
 ghost use Rattle.ms_paths.specs.Flow.{IsReducible};
 ghost use Rattle.ms_ir.specs.Graph.{graph_of};
 
-use crate::graph::{P, expect_closed, expect_near, expect_reducible, flow_of, function, load, put, store};
+use crate::graph::{
+    P, expect_closed, expect_near, expect_reducible, flow_of, function, load, put, store,
+};
 use ms_form::Access;
 use ms_ir::{BlockNo, Func, InstNo, Names, Val};
 use ms_session::{Found, Session, one_annotated};

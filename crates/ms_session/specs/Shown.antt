@@ -13,7 +13,6 @@ use Rattle.ms_form.specs.declared.access.Access.{Access}
 use Rattle.ms_form.specs.declared.access.Access.TheVariants.{Entry, Of, Phi}
 use Rattle.ms_form.specs.Form.{FormState}
 use Rattle.ms_build.specs.Accesses.{event_of, has_phi, operand_at}
-use Rattle.ms_alias.specs.Roots.{step_in}
 use Rattle.ms_print.specs.declared.notes.Note.{Note}
 use Rattle.ms_print.specs.Text.{ended}
 use Rattle.ms_session.specs.Annotated.{def_events, numbered_from, same_event, number_in, access_text, note_of, IsUse, block_in_entry, with_commas, behind_commas}
@@ -109,12 +108,3 @@ with_line notes at (Some line) = notes ++ (record { at = at; line = line }) ∷ 
 -- the number at a place of a block is this instruction's
 abbrev pub IsCursor : List Block → ℕ → ℕ → Option InstNo → Type 0
 IsCursor blocks b k at = option_map (λ i. i.0) at ≡ option_map (λ x. x.number) (slice_get (insts_at blocks b) k)
-
--- no instruction is a getelementptr of a pointer
-abbrev pub NoSteps : List Placed → Type 0
-NoSteps [] = Unit {0}
-NoSteps (x ∷ xs) = (step_in x.inst ≡ None) × NoSteps xs
-
-abbrev pub MakesNoSteps : List Block → Type 0
-MakesNoSteps [] = Unit {0}
-MakesNoSteps (b ∷ bs) = NoSteps b.insts × MakesNoSteps bs
