@@ -1,4 +1,6 @@
 // Parts of lines and functions that tests build by hand.
+ghost use Rattle.std.specs.Prelude.{◌≡◌, length, IfOk};
+
 use ms_grammar::Head;
 use ms_ir::{Name, NoMemory, Param, Params, Text, Ty};
 use std::alloc::Global;
@@ -14,7 +16,9 @@ pub fn word(alloc: Global, bytes: &str) -> Result<Name, NoMemory> {
 }
 
 /// One pointer for a parameter, without a name.
-pub fn a_pointer(alloc: Global) -> Result<Params, NoMemory> {
+pub fn a_pointer(alloc: Global) -> Result<Params, NoMemory>
+    ensures { IfOk result (λ params. length params ≡ 1) }
+{
     let mut params = Params::new(alloc);
     params.push(Param {
         ty: Ty::Ptr,
