@@ -1,0 +1,10 @@
+pub mod Values
+pub mod Operations
+pub mod Memory
+pub mod States
+pub mod Calls
+pub mod Steps
+pub mod Runs
+pub mod Traces
+pub mod Refines
+pub mod Samples
