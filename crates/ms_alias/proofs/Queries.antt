@@ -9,6 +9,8 @@ use Rattle.ms_ir.specs.declared.inst.Val.{Val}
 use Rattle.ms_ir.specs.declared.inst.Inst.{Inst}
 use Rattle.ms_ir.specs.declared.inst.Inst.TheVariants.{Load, Store, Copy, Call}
 use Rattle.ms_ir.specs.Func.{Placed, Block, FuncState, IsAt, IsNowhere}
+use Rattle.ms_meaning.specs.Values.{size_of}
+use Rattle.ms_meaning.specs.Memory.{HoldsByte}
 use Rattle.ms_alias.specs.declared.loc.Root.{Root}
 use Rattle.ms_alias.specs.declared.loc.Root.TheVariants.{Local}
 use Rattle.ms_alias.specs.declared.loc.Loc.{Loc}
@@ -18,8 +20,8 @@ use Rattle.ms_alias.specs.declared.sets.Set.{Set}
 use Rattle.ms_alias.specs.declared.sets.Set.TheVariants.{Alloca}
 use Rattle.ms_alias.specs.Roots.{pointer_of, HasRoot, IsFixed}
 use Rattle.ms_alias.specs.Captured.{IsCaptured}
-use Rattle.ms_alias.specs.Reaches.{Reach, Span, Called, size_of, IsReachOf, IsWritten, IsLocRead, IsLocWritten, ReadsLoc, WritesLoc}
-use Rattle.ms_alias.specs.Meeting.{HoldsByte, MustWrite}
+use Rattle.ms_alias.specs.Reaches.{Reach, Span, Called, IsReachOf, IsWritten, IsLocRead, IsLocWritten, ReadsLoc, WritesLoc}
+use Rattle.ms_alias.specs.Meeting.{MustWrite}
 use Rattle.ms_alias.specs.Tables.{AliasState, same_root, set_of, is_turning, origin_of, origin_in, val_origin, bytes_at, read_loc, written_loc, read_reach, write_reach, holds_byte, must_hold, caught_at, IsReadBy, IsWrittenBy, IsReachBy, IsOrigins, IsAliasOf, IsFor}
 use Rattle.ms_alias.proofs.Makers.{not_nowhere}
 use Rattle.ms_alias.proofs.RootLemmas.{one_root, origin_told, turning_from, turning_to, read_from, read_to, written_from, written_to}

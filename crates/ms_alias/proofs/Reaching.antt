@@ -10,6 +10,7 @@ use Rattle.ms_ir.specs.declared.names.GlobalNo.{GlobalNo}
 use Rattle.ms_ir.specs.declared.inst.Val.{Val}
 use Rattle.ms_ir.specs.declared.inst.Arg.{Arg}
 use Rattle.ms_ir.specs.Func.{FuncState}
+use Rattle.ms_meaning.specs.Memory.{HoldsByte}
 use Rattle.ms_alias.specs.declared.loc.Root.{Root}
 use Rattle.ms_alias.specs.declared.loc.Root.TheVariants.{Local, Global}
 use Rattle.ms_alias.specs.declared.sets.Set.{Set}
@@ -18,7 +19,7 @@ use Rattle.ms_alias.specs.Roots.{pointer_of, IsFixed}
 use Rattle.ms_alias.specs.Bases.{Base, Alloca as AllocaBase, Argument as ArgumentBase, Object as ObjectBase, Outside, Hidden, HasBase, HasValBase, IsNamed, IsBrought}
 use Rattle.ms_alias.specs.Captured.{IsCaptured}
 use Rattle.ms_alias.specs.Reaches.{Reach, Span, Called, IsKnown, IsReached}
-use Rattle.ms_alias.specs.Meeting.{MayBeOne, IsOuterBase, HoldsByte, ShareBase, Meet}
+use Rattle.ms_alias.specs.Meeting.{MayBeOne, IsOuterBase, ShareBase, Meet}
 use Rattle.ms_alias.specs.Tables.{AliasState, BasesState, same_root, row_of, set_of, have_common, has_argument, has_outer, sets_meet, is_caught, is_known, set_of_option, val_set, args_meet, call_meets, call_meets_args, are_known, calls_meet, ranges_meet, is_turning, spans_meet, reaches_meet, IsSet, IsBases, IsCaptures, IsAliasOf, base_of}
 use Rattle.ms_alias.proofs.Makers.{is_number}
 use Rattle.ms_alias.proofs.Meets.{plain, sets_from, sets_to, outer_from, outer_to, shared_from, shared_to}

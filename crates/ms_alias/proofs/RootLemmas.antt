@@ -5,11 +5,12 @@ use Rattle.ms_ir.specs.declared.inst.Val.{Val}
 use Rattle.ms_ir.specs.declared.inst.Inst.{Inst}
 use Rattle.ms_ir.specs.declared.inst.Inst.TheVariants.{Load, Store, Copy, Call}
 use Rattle.ms_ir.specs.Func.{FuncState}
+use Rattle.ms_meaning.specs.Values.{size_of}
 use Rattle.ms_alias.specs.declared.loc.Root.{Root}
 use Rattle.ms_alias.specs.declared.loc.Root.TheVariants.{Local, Global}
 use Rattle.ms_alias.specs.declared.origins.Origin.{Origin}
 use Rattle.ms_alias.specs.Roots.{Step, pointer_of, IsRootAfter, HasRoot, IsTurning}
-use Rattle.ms_alias.specs.Reaches.{Reach, Span, IsSpan, IsRead, IsWritten, size_of}
+use Rattle.ms_alias.specs.Reaches.{Reach, Span, IsSpan, IsRead, IsWritten}
 use Rattle.ms_alias.specs.Tables.{origin_of, origin_in, val_origin, span_at, read_reach, write_reach, is_turning, IsOrigins, IsTurnings}
 
 -- a pointer has one root

@@ -1,6 +1,7 @@
 -- When two reaches may have a byte in common, and so which instructions may write or read a location, or must write a byte.
-use Rattle.std.specs.Prelude.{◌≡◌, ◌<◌, ◌⊎◌, ◌+ℤ◌, ◌≤ℤ◌, ◌<ℤ◌, ℕ, ℤ, pos}
+use Rattle.std.specs.Prelude.{◌≡◌, ◌<◌, ◌⊎◌, ℕ, ℤ}
 use Rattle.ms_ir.specs.Func.{Placed, FuncState, IsAt}
+use Rattle.ms_meaning.specs.Memory.{HoldsByte}
 use Rattle.ms_alias.specs.declared.loc.Root.{Root}
 use Rattle.ms_alias.specs.declared.loc.Loc.{Loc}
 use Rattle.ms_alias.specs.Roots.{IsFixed}
@@ -22,10 +23,6 @@ MayBeOne Outside (Argument l) = Unit {0}
 MayBeOne Outside Outside = Unit {0}
 MayBeOne Hidden Hidden = Unit {0}
 MayBeOne _ _ = ⊥
-
--- byte k is one of so many from an offset on
-abbrev pub HoldsByte : ℤ → ℕ → ℤ → Type 0
-HoldsByte from len k = (from ≤ℤ k) × (k <ℤ (from +ℤ pos len))
 
 -- byte locations with one fixed root
 abbrev pub HaveOneRoot : FuncState → Reach → Reach → Type 0

@@ -1,13 +1,12 @@
 -- What an instruction reads and what it writes: bytes at a root, or all that some bases lead to.
 use Rattle.std.specs.Prelude.{◌≡◌, ◌⊎◌, ◌||◌, ℕ, ℤ, Bool, true, if◌then◌else◌, List, [], Some, Contains}
-use Rattle.ms_ir.specs.declared.names.Ty.{Ty}
-use Rattle.ms_ir.specs.declared.names.Ty.TheVariants.{I1, I8, I16, I32, I64, Ptr}
 use Rattle.ms_ir.specs.declared.names.InstNo.{InstNo}
 use Rattle.ms_ir.specs.declared.inst.Val.{Val}
 use Rattle.ms_ir.specs.declared.inst.Arg.{Arg}
 use Rattle.ms_ir.specs.declared.inst.Inst.{Inst}
 use Rattle.ms_ir.specs.declared.inst.Inst.TheVariants.{Load, Store, Copy, Call}
 use Rattle.ms_ir.specs.Func.{Placed, FuncState, IsAt}
+use Rattle.ms_meaning.specs.Values.{size_of}
 use Rattle.ms_alias.specs.declared.loc.Root.{Root}
 use Rattle.ms_alias.specs.declared.loc.Loc.{Loc}
 use Rattle.ms_alias.specs.declared.loc.Loc.TheVariants.{Bytes, ReadBy}
@@ -20,15 +19,6 @@ use Rattle.ms_alias.specs.Captured.{IsCaptured}
 pub data Reach : Type 0 where
   Span : (root : Root) (from : ℤ) (len : ℕ) → Reach
   Called : (args : List Arg) (other hidden : Bool) → Reach
-
--- the bytes of a value in memory; a pointer is in no memory here
-abbrev pub size_of : Ty → ℕ
-size_of I1 = 1
-size_of I8 = 1
-size_of I16 = 2
-size_of I32 = 4
-size_of I64 = 8
-size_of Ptr = 0
 
 -- so many bytes from where the value points to
 abbrev pub IsSpan : FuncState → Val → ℕ → Reach → Type 0

@@ -8,6 +8,7 @@ use Rattle.ms_ir.specs.declared.inst.Val.{Val}
 use Rattle.ms_ir.specs.declared.inst.Arg.{Arg}
 use Rattle.ms_ir.specs.declared.inst.Inst.{Inst}
 use Rattle.ms_ir.specs.declared.inst.Inst.TheVariants.{Load, Store, Copy, Call}
+use Rattle.ms_meaning.specs.Values.{size_of}
 use Rattle.ms_alias.specs.declared.loc.Loc.{Loc}
 use Rattle.ms_alias.specs.declared.loc.Loc.TheVariants.{Bytes, ReadBy}
 use Rattle.ms_ir.specs.Func.{Placed, FuncState, IsAt}
@@ -21,7 +22,7 @@ use Rattle.ms_alias.specs.declared.origins.Origin.{Origin}
 use Rattle.ms_alias.specs.Roots.{Maker, maker_of, is_alloca, pointer_of, HasRoot, IsTurning}
 use Rattle.ms_alias.specs.Bases.{Base, Alloca as AllocaBase, Argument as ArgumentBase, Object as ObjectBase, HasBase, IsArgument, leads_of}
 use Rattle.ms_alias.specs.Captured.{IsCaptured, IsCapturedBut}
-use Rattle.ms_alias.specs.Reaches.{Reach, Span, Called, size_of}
+use Rattle.ms_alias.specs.Reaches.{Reach, Span, Called}
 use Rattle.ms_alias.specs.Meeting.{IsOuter}
 
 -- the bases of a pointer: a mark for each column, whether one is an argument, and whether one is no alloca

@@ -1,7 +1,6 @@
 // The instructions that make pointers.
 ghost use Rattle.std.specs.Prelude.{◌≡◌, ◌&&◌, not, option_map};
 ghost use Rattle.ms_alias.specs.Roots.{is_pointer, makes_pointer, is_alloca, maker_of, pointer_of, step_in, step_by_maker, pair_step, moving_block};
-ghost use Rattle.ms_alias.specs.Reaches.{size_of};
 
 use crate::loc::Root;
 use ms_ir::{BlockNo, Func, Inst, LocalNo, Ty, Val};
@@ -14,19 +13,6 @@ pub fn pointer_of(val: Val) -> Option<Root>
         Val::Num(..) => None,
         Val::Local(l) => Some(Root::Local(l)),
         Val::Global(g) => Some(Root::Global(g)),
-    }
-}
-
-/// The bytes of a value in memory.
-pub fn size_of(ty: Ty) -> u32
-    ensures { result ≡ size_of ty }
-{
-    match ty {
-        Ty::I1 | Ty::I8 => 1,
-        Ty::I16 => 2,
-        Ty::I32 => 4,
-        Ty::I64 => 8,
-        Ty::Ptr => 0,
     }
 }
 

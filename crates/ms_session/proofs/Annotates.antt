@@ -1,9 +1,9 @@
 -- The text that a form shows is the annotated text.
-use Rattle.std.proofs.Common.{◌≡◌, ◌<◌, ◌+◌, ◌↔◌, ℕ, suc, zero, Bool, true, false, eqb, List, [], ◌∷◌, ◌++◌, length, map, Option, Some, None, if◌then◌else◌, refl, sym, ap, ◌∙◌, subst, arith, add-one, ⊎_elim}
-use Rattle.std.specs.Prelude.{slice_get, slice_index, IsTrue, IsSome, Contains, nat_eq, codes, decimal}
+use Rattle.std.proofs.Common.{◌≡◌, ◌<◌, ◌+◌, ◌↔◌, ℕ, suc, zero, Bool, true, false, eqb, List, [], ◌∷◌, length, map, Option, Some, None, if◌then◌else◌, refl, sym, ap, ◌∙◌, subst, arith, add-one, ⊎_elim}
+use Rattle.std.specs.Prelude.{slice_get, slice_index, IsSome, Contains}
 use Rattle.std.proofs.lemmas.Bool.{cases_Bool, both_ways}
 use Rattle.std.proofs.lemmas.List.{map-append}
-use Rattle.ms_paths.specs.Flow.{Block as Run, Event, Phi as LastPhi, IsReached, IsAnswer, IsClosed}
+use Rattle.ms_paths.specs.Flow.{Block as Run, Event, IsReached}
 use Rattle.ms_ir.specs.declared.names.Name.{Name}
 use Rattle.ms_ir.specs.declared.inst.Kind.{Kind}
 use Rattle.ms_ir.specs.declared.inst.Kind.TheVariants.{Def, Reads, Neither}
@@ -23,8 +23,8 @@ use Rattle.ms_build.specs.Filled.{names_access}
 use Rattle.ms_print.specs.declared.notes.Notes.{Notes}
 use Rattle.ms_print.specs.Numbering.{labels_of}
 use Rattle.ms_print.specs.Text.{note_at, func_text}
-use Rattle.ms_session.specs.Annotated.{IsAnnotated, IsInstLine, numbered_from, number_in, note_of, phi_note, entries_by_slot, entries_from, with_commas}
-use Rattle.ms_session.specs.Shown.{reached_in, IsShownLine, entry_text, operand_text, operand_texts, phi_text, shown_phi}
+use Rattle.ms_session.specs.Annotated.{IsAnnotated, IsInstLine, numbered_from, note_of, phi_note, entries_by_slot, entries_from}
+use Rattle.ms_session.specs.Shown.{reached_in, IsShownLine, entry_text, operand_text, operand_texts, shown_phi}
 use Rattle.ms_session.proofs.Unique.{OneAnswer, true_alike}
 use Rattle.ms_session.proofs.Sources.{edge, edges_hold, edges_have}
 use Rattle.ms_session.proofs.Lasts.{OnePlaced, last_by, lasts_are}

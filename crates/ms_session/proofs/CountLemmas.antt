@@ -1,5 +1,5 @@
 -- Uses are counted along lists.
-use Rattle.std.proofs.Common.{◌≡◌, ◌<◌, ◌+◌, ◌∷◌, ℕ, List, drop, length, if◌then◌else◌, refl, Bool, ap, ◌∙◌, arith, add-one}
+use Rattle.std.proofs.Common.{◌≡◌, ◌<◌, ◌+◌, ◌∷◌, ℕ, List, drop, length, if◌then◌else◌, refl, Bool, ap, arith, add-one}
 use Rattle.ms_ir.specs.Inst.{kind_of_inst}
 use Rattle.ms_ir.specs.Func.{Placed, Block, insts_at, no_block}
 use Rattle.ms_session.specs.Annotated.{is_use, uses_in, uses_from}

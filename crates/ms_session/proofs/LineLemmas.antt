@@ -1,6 +1,5 @@
 -- The entries of a phi, and lines in notes.
-use Rattle.std.proofs.Common.{◌≡◌, ◌≢◌, ◌<◌, ◌≤◌, ◌+◌, ℕ, suc, zero, Bool, true, false, eqb, List, [], ◌∷◌, ◌++◌, drop, length, Option, Some, None, if◌then◌else◌, refl, ap, sym, ◌∙◌, arith, add-one, append_assoc, append-nil, ⊎_elim}
-use Rattle.std.specs.Prelude.{slice_get, codes}
+use Rattle.std.proofs.Common.{◌≡◌, ◌≢◌, ◌+◌, ℕ, suc, true, false, eqb, List, [], ◌∷◌, ◌++◌, Option, Some, None, if◌then◌else◌, refl, ap, ◌∙◌, arith, append_assoc, append-nil, ⊎_elim}
 use Rattle.std.proofs.lemmas.Bool.{cases_Bool}
 use Rattle.std.proofs.lemmas.Bool.Decides.{nat_tests}
 use Rattle.ms_paths.specs.Flow.{Event}
@@ -10,7 +9,7 @@ use Rattle.ms_form.specs.Form.{FormState}
 use Rattle.ms_build.specs.Accesses.{operand_at}
 use Rattle.ms_print.specs.declared.notes.Note.{Note}
 use Rattle.ms_print.specs.Text.{note_at, ended}
-use Rattle.ms_session.specs.Annotated.{with_commas, behind_commas}
+use Rattle.ms_session.specs.Annotated.{behind_commas}
 use Rattle.ms_session.specs.Shown.{line_text, operand_text, operand_texts, comma_text, members_text, with_line}
 
 members_more : (out t : List ℕ) (slot : ℕ) (ts : List (List ℕ)) → ((out ++ comma_text slot) ++ t) ++ members_text (slot + 1) ts ≡ out ++ members_text slot (t ∷ ts)

@@ -1,5 +1,5 @@
 -- Accesses and their numbers.
-use Rattle.std.proofs.Common.{◌≡◌, ◌≢◌, ◌<◌, ◌+◌, ℕ, suc, zero, Bool, true, false, eqb, List, [], ◌∷◌, ◌++◌, drop, length, map, set, get_or, Option, Some, None, if◌then◌else◌, refl, ap, sym, ◌∙◌, arith, add-one, append_assoc, append-nil, ⊎_elim}
+use Rattle.std.proofs.Common.{◌≡◌, ◌≢◌, ◌<◌, ◌+◌, ℕ, suc, Bool, true, false, eqb, List, [], ◌∷◌, ◌++◌, drop, length, map, set, get_or, Option, Some, None, if◌then◌else◌, refl, ap, sym, ◌∙◌, arith, add-one, append_assoc, append-nil, ⊎_elim}
 use Rattle.std.specs.Prelude.{is_some, option_map, unwrap_or, slice_index_or}
 use Rattle.std.proofs.lemmas.Bool.{cases_Bool}
 use Rattle.std.proofs.lemmas.Bool.Decides.{nat_tests}
@@ -7,12 +7,12 @@ use Rattle.std.proofs.lemmas.List.{get_or-set_same, get_or-set_other, drop_more,
 use Rattle.ms_paths.specs.Flow.{Block as Run, Event, Of, Phi, Entry}
 use Rattle.ms_ir.specs.Inst.{kind_of_inst}
 use Rattle.ms_ir.specs.Graph.{is_def}
-use Rattle.ms_ir.specs.Func.{Placed, Block, insts_at, no_block}
+use Rattle.ms_ir.specs.Func.{Placed, Block, no_block}
 use Rattle.ms_form.specs.declared.access.Access.{Access}
 use Rattle.ms_form.specs.Form.{FormState}
 use Rattle.ms_build.specs.Accesses.{event_of, has_phi}
 use Rattle.ms_session.specs.Annotated.{def_events, numbered_from, same_event, number_in}
-use Rattle.ms_session.specs.Shown.{NumbersState, place_in, IsNumbering, with_more, reached_in, phi_events, block_events}
+use Rattle.ms_session.specs.Shown.{NumbersState, place_in, IsNumbering, with_more, reached_in, block_events}
 
 -- the first of two that is there
 abbrev first_of : Option ℕ → Option ℕ → Option ℕ

@@ -1,6 +1,6 @@
 -- What a use names.
-use Rattle.std.proofs.Common.{◌≡◌, ◌<◌, ◌⊎◌, ◌↔◌, inl, inr, ℕ, Bool, true, false, List, [], Option, Some, None, refl, sym, ap, ◌∙◌, subst, ⊎_elim}
-use Rattle.std.specs.Prelude.{slice_get, IsSome}
+use Rattle.std.proofs.Common.{◌≡◌, ◌↔◌, inl, inr, ℕ, true, false, List, [], Option, Some, None, refl, sym, ap, ◌∙◌, subst, ⊎_elim}
+use Rattle.std.specs.Prelude.{slice_get}
 use Rattle.std.proofs.lemmas.Bool.{cases_Bool, both_ways}
 use Rattle.ms_paths.specs.Flow.{Event, Entry, IsReached}
 use Rattle.ms_ir.specs.declared.names.InstNo.{InstNo}
@@ -17,7 +17,7 @@ use Rattle.ms_form.specs.Form.{FormState}
 use Rattle.ms_alias.specs.declared.loc.Loc.{Loc}
 use Rattle.ms_alias.specs.Reaches.{IsLocRead, ReadsLoc}
 use Rattle.ms_walk.specs.Clobber.{IsClobberAt, IsClobber}
-use Rattle.ms_session.specs.Annotated.{ReadsNone, IsUse, note_of}
+use Rattle.ms_session.specs.Annotated.{IsUse, note_of}
 use Rattle.ms_session.specs.Shown.{reached_in, IsShownLine}
 use Rattle.ms_session.proofs.Lasts.{OnePlaced}
 use Rattle.ms_session.proofs.Annotates.{ReachedTold}

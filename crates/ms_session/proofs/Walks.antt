@@ -1,5 +1,5 @@
 -- Going along the instructions of a block.
-use Rattle.std.proofs.Common.{◌≡◌, ◌<◌, ℕ, suc, zero, ◌+◌, List, [], ◌∷◌, ◌++◌, drop, length, Option, Some, None, refl, ap, sym, ◌∙◌, arith, add-one}
+use Rattle.std.proofs.Common.{◌≡◌, ◌<◌, ℕ, suc, zero, ◌+◌, List, [], ◌∷◌, drop, length, Option, Some, None, refl, ap, ◌∙◌, arith, add-one}
 use Rattle.std.specs.Prelude.{slice_get, option_map}
 use Rattle.ms_ir.specs.declared.names.InstNo.{InstNo}
 use Rattle.ms_ir.specs.Func.{Placed, Block, IsAt, IsNowhere, NotNumbered, insts_at}

@@ -1,6 +1,6 @@
 -- The annotated text as a form shows it.
-use Rattle.std.specs.Prelude.{◌≡◌, ◌<◌, ℕ, suc, Bool, if◌then◌else◌, ◌==◌, List, [], ◌∷◌, ◌++◌, length, Option, Some, None, is_some, option_map, codes, decimal, slice_get, slice_index_or}
-use Rattle.ms_paths.specs.Flow.{Block as Run, Event, Of as LastOf, Phi as LastPhi, Entry as LastEntry}
+use Rattle.std.specs.Prelude.{◌≡◌, ◌<◌, ℕ, suc, Bool, if◌then◌else◌, ◌==◌, List, [], ◌∷◌, ◌++◌, Option, Some, None, is_some, option_map, codes, decimal, slice_get, slice_index_or}
+use Rattle.ms_paths.specs.Flow.{Block as Run, Event, Of as LastOf, Phi as LastPhi}
 use Rattle.ms_ir.specs.declared.names.Name.{Name}
 use Rattle.ms_ir.specs.declared.names.Name.TheVariants.{Absent}
 use Rattle.ms_ir.specs.declared.names.InstNo.{InstNo}
@@ -15,7 +15,7 @@ use Rattle.ms_form.specs.Form.{FormState}
 use Rattle.ms_build.specs.Accesses.{event_of, has_phi, operand_at}
 use Rattle.ms_print.specs.declared.notes.Note.{Note}
 use Rattle.ms_print.specs.Text.{ended}
-use Rattle.ms_session.specs.Annotated.{def_events, numbered_from, same_event, number_in, access_text, note_of, IsUse, block_in_entry, with_commas, behind_commas}
+use Rattle.ms_session.specs.Annotated.{def_events, same_event, number_in, access_text, note_of, IsUse, block_in_entry, with_commas, behind_commas}
 
 -- the accesses that have numbers so far, and for how many blocks and instructions there are places
 pub record NumbersState : Type 0 where

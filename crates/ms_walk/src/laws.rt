@@ -5,6 +5,7 @@ ghost use Rattle.ms_ir.specs.Func.{FuncState};
 ghost use Rattle.ms_ir.specs.Graph.{graph_of};
 ghost use Rattle.ms_ir.specs.Locals.{IsNumbered};
 ghost use Rattle.ms_alias.specs.declared.loc.Loc.{Loc};
+ghost use Rattle.ms_sound.specs.Bytes.{BeginsOnce, IsSound};
 ghost use Rattle.ms_walk.specs.Clobber.{IsClobberAt, IsClobber};
 
 /// A location has one clobber at most before a place of a reached block, and so before an instruction.
@@ -13,4 +14,12 @@ pub fn one_clobber()
     ensures one { (f : FuncState) (i : ℕ) (loc : Loc) (d e : Event) → IsNumbered f → IsClobber f i loc d → IsClobber f i loc e → d ≡ e }
 {
     ms_paths::one_answer();
+}
+
+/// A clobber holds on every run of a function whose allocas stand in the first block, to which no edge leads: from when it took place last up
+/// to the instruction no step writes a byte of the location.
+pub fn clobber_holds()
+    ensures { (f : FuncState) (i : ℕ) (loc : Loc) (e : Event) → IsNumbered f → BeginsOnce f → IsClobber f i loc e → IsSound f i loc e }
+{
+    ms_sound::clobbers_are_sound();
 }

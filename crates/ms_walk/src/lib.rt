@@ -5,5 +5,5 @@ mod laws;
 mod search;
 mod writers;
 
-pub use laws::one_clobber;
+pub use laws::{clobber_holds, one_clobber};
 pub use search::walk;

@@ -7,6 +7,7 @@ ghost use Rattle.ms_build.specs.Accesses.{event_of};
 ghost use Rattle.ms_build.specs.Built.{IsFormOf};
 ghost use Rattle.ms_climb.specs.Answer.{StandsReached};
 ghost use Rattle.ms_alias.specs.Tables.{IsAliasOf};
+ghost use Rattle.ms_sound.specs.Bytes.{BeginsOnce, IsSound};
 ghost use Rattle.ms_walk.specs.Clobber.{IsClobber};
 
 use crate::writers::Writers;
@@ -35,10 +36,12 @@ pub fn walk(
     requires form { IsFormOf func.now form.now }
     requires alias { IsAliasOf func.now alias.now }
     requires reached { StandsReached func.now.blocks i.0 }
-    ensures { IfOk result (λ a. IsClobber func.now i.0 loc.now (event_of a)) }
+    ensures clobber { IfOk result (λ a. IsClobber func.now i.0 loc.now (event_of a)) }
+    ensures sound { BeginsOnce func.now → IfOk result (λ a. IsSound func.now i.0 loc.now (event_of a)) }
 {
     func.numbered();
     ms_alias::tests_told();
+    ms_sound::clobbers_are_sound();
     let writers = Writers { func, alias, loc };
     Ok(last_before(alloc, func, flow, form, &writers, i)?)
 }

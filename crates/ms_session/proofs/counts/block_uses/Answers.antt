@@ -1,4 +1,4 @@
-use Rattle.std.proofs.Common.{◌≡◌, ◌+◌, List, drop, subst, refl, arith}
+use Rattle.std.proofs.Common.{◌+◌, List, drop, subst, refl, arith}
 use Rattle.ms_ir.specs.Func.{Placed, insts_at}
 use Rattle.ms_session.specs.Annotated.{uses_in}
 use Rattle.ms_session.specs.Shown.{IsCursor}

@@ -1,4 +1,4 @@
-use Rattle.std.proofs.Common.{◌≡◌, ◌<◌, ◌+◌, length, refl, arith}
+use Rattle.std.proofs.Common.{◌<◌, ◌+◌, length, refl, arith}
 use Rattle.ms_session.specs.Annotated.{uses_from}
 use Rattle.ms_session.specs.Shown.{reached_in}
 use Rattle.ms_session.proofs.CountLemmas.{uses_more}

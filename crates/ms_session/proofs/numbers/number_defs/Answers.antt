@@ -1,4 +1,4 @@
-use Rattle.std.proofs.Common.{◌≡◌, ◌+◌, ◌++◌, ◌∙◌, List, drop, ap, sym, subst}
+use Rattle.std.proofs.Common.{◌+◌, ◌++◌, ◌∙◌, List, drop, ap, sym, subst}
 use Rattle.ms_ir.specs.Func.{Placed, insts_at}
 use Rattle.ms_session.specs.Annotated.{def_events}
 use Rattle.ms_session.specs.Shown.{NumbersState, IsCursor}

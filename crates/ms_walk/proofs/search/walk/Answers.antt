@@ -1,9 +1,10 @@
+use Rattle.ms_build.specs.Accesses.{event_of}
 use Rattle.ms_alias.specs.Tests.{may_write_by}
 use Rattle.ms_walk.proofs.Writing.{writer_is_def}
 use Rattle.ms_walk.proofs.search.walk.Goals as goal
 
-pub returns : goal.returns
-returns c =
+pub returns-clause-clobber : goal.returns-clause-clobber
+returns-clause-clobber c =
     let r = c.requires.reached in
     record {
       block = r.block;
@@ -17,6 +18,15 @@ returns c =
         answer = c.in_ok-last_before.ensures r.block r.place r.inst r.at;
       };
     }
+
+pub returns-clause-sound : goal.returns-clause-sound
+returns-clause-sound c =
+    let f = c.args.func.now in
+    let loc = c.args.loc.now in
+    let r = c.requires.reached in
+    λ once.
+    c.clobbers_are_sound.ensures f c.numbered.ensures once (may_write_by f c.args.alias.now loc) loc (c.tests_told.ensures.writes f c.args.alias.now c.requires.alias loc)
+    c.args.i.0 r.block r.place r.inst (event_of c.in_ok-last_before.field-0) r.at (c.in_ok-last_before.ensures r.block r.place r.inst r.at)
 
 pub last_before-requires-clause-defs : goal.last_before-requires-clause-defs
 last_before-requires-clause-defs c =

@@ -1,4 +1,4 @@
-use Rattle.std.proofs.Common.{ℕ, List, sym, subst}
+use Rattle.std.proofs.Common.{List, sym, subst}
 use Rattle.ms_paths.specs.Flow.{Block as Run, IsReached}
 use Rattle.ms_ir.specs.Func.{FuncState}
 use Rattle.ms_session.specs.Annotated.{HasUses}

@@ -1,0 +1,12 @@
+pub mod Goes
+pub mod Walks
+pub mod Chains
+pub mod Told
+pub mod Given
+pub mod Held
+pub mod Escapes
+pub mod Operands
+pub mod Always
+pub mod Touches
+pub mod Meets
+pub mod Clobbers
