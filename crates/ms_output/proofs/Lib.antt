@@ -9,3 +9,4 @@ pub mod Room
 pub mod Shapes
 pub mod Taken
 pub mod Near
+pub mod Begins

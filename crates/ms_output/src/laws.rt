@@ -1,5 +1,11 @@
 // Laws of outputs. Each is the contract of a function that does nothing.
-ghost use Rattle.std.specs.Prelude.{◌≡◌, List, ℕ};
+ghost use Rattle.std.specs.Prelude.{◌≡◌, List, ℕ, Some, slice_get};
+ghost use Rattle.ms_ir.specs.Func.{FuncState};
+ghost use Rattle.ms_ir.specs.Module.{ModuleState};
+ghost use Rattle.ms_grammar.specs.declared.line.Line.{Line};
+ghost use Rattle.ms_read.specs.Draft.{IsDraft};
+ghost use Rattle.ms_valid.specs.Cause.{IsAccepted};
+ghost use Rattle.ms_sound.specs.Bytes.{BeginsOnce};
 ghost use Rattle.ms_output.specs.Output.{IsOutput, IsRefusal};
 ghost use Rattle.ms_output.specs.declared.refusal.Refusal.{Refusal};
 ghost use Rattle.ms_output.specs.declared.wanted.Wanted.{Wanted};
@@ -12,4 +18,14 @@ pub fn one_output()
 {
     ms_read::one_draft();
     ms_session::one_annotated();
+}
+
+/// In the functions of an accepted module allocas stand in the first block, to which no edge leads. So what is said of clobbers on every run
+/// holds of each of them.
+pub fn accepted_begin_once()
+    ensures { (bytes : List ℕ) (draft : List (ℕ × Line)) (m : ModuleState) → IsDraft bytes draft → IsAccepted draft m →
+        (n : ℕ) (f : FuncState) → slice_get m.bodies n ≡ Some (Some f) → BeginsOnce f }
+{
+    ms_read::draft_told();
+    ms_read::places_told();
 }

@@ -10,7 +10,7 @@ mod refusal;
 mod unwritten;
 mod wanted;
 
-pub use laws::one_output;
+pub use laws::{accepted_begin_once, one_output};
 pub use output::render;
 pub use refusal::Refusal;
 pub use unwritten::Unwritten;
