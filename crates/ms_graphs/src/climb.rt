@@ -1,5 +1,5 @@
 // The search for one Def of a function, in a loop with two arms.
-ghost use Rattle.std.specs.Prelude.{◌≡◌, ◌&&◌, ◌==◌};
+ghost use Rattle.std.specs.Prelude.{◌≡◌, ◌&&◌, ◌==◌, false};
 ghost use Rattle.ms_paths.specs.Flow.{IsClosed, IsReducible};
 ghost use Rattle.ms_ir.specs.Graph.{graph_of, defs_of, is_def};
 ghost use Rattle.ms_flow.specs.Table.{edges_of};
@@ -11,6 +11,7 @@ use ms_flow::Flow;
 use ms_form::{Access, Form};
 use ms_ir::{BlockNo, Func, InstNo, Kind, Name, Val, kind_of};
 use std::alloc::Global;
+use std::cell::Cell;
 use std::process::Abort;
 
 fn writes(kind: Kind) -> bool
@@ -137,4 +138,70 @@ fn arms_in_a_loop(rt: HostRuntime) {
     let flow = flow_of(&rt, alloc, &func);
     let form = form_of(&rt, alloc, &func, &flow);
     answers(&rt, alloc, &func, &flow, &form);
+}
+
+// How often the search asked each instruction, by its number. None counts, so that the search goes on to the entry.
+#[derive(Drop)]
+struct Asked<'a> {
+    times: &'a [Cell<u8>],
+}
+
+impl<'a> Writes for Asked<'a> {
+    ghost test = { λ s i. false };
+
+    fn writes(&self, i: InstNo) -> bool {
+        if let Some(times) = self.times.get(i.0 as usize) {
+            times.set(times.get().saturating_add(1));
+        }
+        false
+    }
+}
+
+// How often one search from the end of a block asks each instruction.
+fn times_asked(
+    rt: &impl Abort,
+    alloc: Global,
+    func: &Func,
+    flow: &Flow,
+    form: &Form,
+    b: u32,
+) -> Vec<Cell<u8>>
+    requires graph { flow.now.graph ≡ edges_of func.now.blocks }
+    requires closed { IsClosed (graph_of func.now.blocks) }
+    requires reducible { IsReducible flow.now.graph }
+    requires form { IsFormOf func.now form.now }
+{
+    ms_flow::same_paths();
+    let times = Vec::from_elem(alloc, Cell::new(0), func.made() as usize);
+    let times = times.ok().expect(rt, "memory");
+    assert!(rt; b < flow.block_count());
+    assert!(rt; flow.reached(BlockNo(b)));
+    let counted = Asked { times: &times };
+    let found = last_at_end(alloc, func, flow, form, &counted, BlockNo(b));
+    assert!(rt; found.ok().expect(rt, "memory") == Access::Entry);
+    times
+}
+
+// A loop with two arms, and so many stores behind it: each Def is asked once.
+fn each_asked_once(rt: &impl Abort, alloc: Global, stores: u32) {
+    let mut func = arms(rt, alloc);
+    for _ in 0..stores {
+        put(rt, &mut func, 6, store(alloc, Val::Local(P), 7));
+    }
+    let flow = flow_of(rt, alloc, &func);
+    let form = form_of(rt, alloc, &func, &flow);
+    let times = times_asked(rt, alloc, &func, &flow, &form, 6);
+    for number in 0..func.made() {
+        let asked = times.get(number as usize).expect(rt, "a number");
+        let is_def = is_def_of(&func, InstNo(number));
+        assert!(rt; asked.get() == u8::from(is_def));
+    }
+}
+
+#[test]
+fn each_def_is_asked_once(rt: HostRuntime) {
+    let alloc = rt.alloc();
+    for stores in [0, 3, 63, 64, 65, 100] {
+        each_asked_once(&rt, alloc, stores);
+    }
 }

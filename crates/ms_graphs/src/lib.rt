@@ -1,4 +1,4 @@
-//! Tests of functions as graphs: instructions and blocks, flow graphs, memory forms, the search in them, pointers, sessions. They
+//! Tests of functions: instructions and blocks, flow graphs, memory forms, the search in them, pointers, sessions, values in runs. They
 //! stand apart, since a crate with tests is proved twice.
 #![tactic(auto)]
 
@@ -20,3 +20,5 @@ mod modules;
 mod pointers;
 #[cfg(test)]
 mod session;
+#[cfg(test)]
+mod values;
