@@ -1,90 +1,15 @@
 -- A run follows a path of its flow graph, and no instruction that counts is run behind the last event of that path.
-use Rattle.std.proofs.Common.{◌≡◌, ◌<◌, ◌≤◌, ◌∙◌, refl, sym, ap, subst, arith, ⊎_elim, ℕ, zero, suc, ◌+◌, ◌==◌, Bool, true, false, ◌⊎◌, inl, inr, List, [], ◌∷◌, Option, Some, None, if◌then◌else◌}
-use Rattle.std.specs.Prelude.{slice_index_or, Contains, max}
+use Rattle.std.proofs.Common.{◌≡◌, ◌<◌, ◌≤◌, ◌∙◌, refl, sym, ap, subst, arith, ⊎_elim, ℕ, zero, suc, ◌+◌, Bool, true, false, List, [], ◌∷◌, Option, Some, None, if◌then◌else◌}
+use Rattle.std.specs.Prelude.{max}
 use Rattle.std.proofs.lemmas.Bool.{cases_Bool, both_ways}
 use Rattle.ms_paths.specs.Flow.{Event, Of, Phi, Entry, IsPath, entered as with_entered, last_event_at, HasEdge}
-use Rattle.ms_ir.specs.declared.names.Ty.TheVariants.{I1}
-use Rattle.ms_ir.specs.declared.names.LocalNo.{LocalNo}
-use Rattle.ms_ir.specs.declared.inst.Term.{Term}
-use Rattle.ms_ir.specs.declared.inst.Term.TheVariants.{Br, CondBr, Ret, Unreachable}
-use Rattle.ms_ir.specs.Func.{Placed, Block, FuncState, no_block, insts_at}
-use Rattle.ms_ir.specs.Graph.{graph_of, successors}
-use Rattle.ms_meaning.specs.Values.{Value}
-use Rattle.ms_meaning.specs.States.{Input, State, value_of, operand_of, number_as}
-use Rattle.ms_meaning.specs.Steps.{Doing, Does, Waits, Fails, doing, Moment, On, Over, Waiting, Lost, after_deed, after_doing, phis_among, with_phis, entered, enters, branches, returns, leaves, step_at, step, next}
-use Rattle.ms_meaning.specs.Runs.{moment}
+use Rattle.ms_ir.specs.Func.{Placed, Block, FuncState, insts_at}
+use Rattle.ms_ir.specs.Graph.{graph_of}
+use Rattle.ms_meaning.specs.States.{Input, State, begun}
+use Rattle.ms_meaning.specs.Steps.{phis_among}
 use Rattle.ms_meaning.specs.Traces.{IsOn, inst_of, Executes, Occurs, OccursLast, IsAboutTo, CountsNoPhi, RunsNone}
-use Rattle.ms_meaning.proofs.LastEvents.{Counts, counts_at, next_at, NoPhiCounts, at_behind, at_end, at_phis}
-
--- What a step that goes on does.
-
-on_one : {s t : State} → On s ≡ On t → s ≡ t
-on_one e = cc
-
--- the run was on before, too
-record CameFrom (f : FuncState) (m : Moment) (s : State) : Type 0 where
-  t : State
-  was : m ≡ On t
-  stepped : step f t ≡ On s
-
-came_from : (f : FuncState) (m : Moment) (s : State) → next f m ≡ On s → CameFrom f m s
-came_from f (On t) s e = record { t = t; was = refl; stepped = e }
-came_from f (Over result t) s e = cc
-came_from f (Waiting t) s e = cc
-came_from f Lost s e = cc
-
--- an instruction leaves the run in its block, at the next place
-record IsNext (s t : State) : Type 0 where
-  block : t.block ≡ s.block
-  place : t.place ≡ s.place + 1
-
-done : (s : State) (result : Option LocalNo) (d : Doing) (t : State) → after_doing s result d ≡ On t → IsNext s t
-done s result (Does d) t e =
-    let same : after_deed s result d ≡ t = on_one e in
-    record { block = ap (λ (x : State). x.block) (sym same); place = ap (λ (x : State). x.place) (sym same) }
-done s result (Waits made) t e = cc
-done s result Fails t e = cc
-
--- a block has been entered, and the next instruction is behind its phis
-record IsIn (f : FuncState) (b : ℕ) (t : State) : Type 0 where
-  block : t.block ≡ b
-  place : t.place ≡ phis_among (insts_at f.blocks b)
-
-came_in : (f : FuncState) (s : State) (b : ℕ) (locals : Option (ℕ → Option Value)) (t : State) → entered f s b locals ≡ On t → IsIn f b t
-came_in f s b None t e = cc
-came_in f s b (Some locals) t e =
-    let same : record s { block = b; place = phis_among (insts_at f.blocks b); locals = locals } ≡ t = on_one e in
-    record { block = ap (λ (x : State). x.block) (sym same); place = ap (λ (x : State). x.place) (sym same) }
-
--- a block that may come next has been entered
-record HasLeft (f : FuncState) (term : Term) (t : State) : Type 0 where
-  b : ℕ
-  edge : Contains (successors term) b
-  inside : IsIn f b t
-
-one_of_two : (f : FuncState) (s : State) (test : Bool) (a b : ℕ) (t : State) → (if test then enters f s b else enters f s a) ≡ On t → IsIn f a t ⊎ IsIn f b t
-one_of_two f s true a b t e = inr (came_in f s b (with_phis s.locals s.block (insts_at f.blocks b)) t e)
-one_of_two f s false a b t e = inl (came_in f s a (with_phis s.locals s.block (insts_at f.blocks a)) t e)
-
-branched : (f : FuncState) (s : State) (n : Option ℕ) (a b : ℕ) (t : State) → branches f s n a b ≡ On t → IsIn f a t ⊎ IsIn f b t
-branched f s None a b t e = cc
-branched f s (Some n) a b t e = one_of_two f s (n == 0) a b t e
-
-not_returned : (s : State) (v : Option Value) (t : State) → returns s v ≡ On t → ⊥
-not_returned s None t e = cc
-not_returned s (Some v) t e = cc
-
-has_left : (f : FuncState) (s : State) (term : Term) (t : State) → leaves f s term ≡ On t → HasLeft f term t
-has_left f s (Br a tail) t e =
-    record { b = a.0; edge = (0, omega arith, refl); inside = came_in f s a.0 (with_phis s.locals s.block (insts_at f.blocks a.0)) t e }
-has_left f s (CondBr cond a b tail) t e =
-    ⊎_elim
-    (λ (i : IsIn f a.0 t). record { b = a.0; edge = (0, omega arith, refl); inside = i })
-    (λ (i : IsIn f b.0 t). record { b = b.0; edge = (1, omega arith, refl); inside = i })
-    (branched f s (number_as I1 (value_of s.locals cond)) a.0 b.0 t e)
-has_left f s (Ret None tail) t e = cc
-has_left f s (Ret (Some given) tail) t e = absurd (not_returned s (operand_of s.locals given.0 given.1) t e)
-has_left f s (Unreachable tail) t e = cc
+use Rattle.ms_meaning.proofs.Goes.{Goes, ran, left, goes, before, one_state}
+use Rattle.ms_meaning.proofs.LastEvents.{Counts, counts_at, NoPhiCounts, at_behind, at_end, at_phis}
 
 -- What took place up to a moment.
 
@@ -114,10 +39,10 @@ module _ (f : FuncState) (input : Input) (E : ℕ → Bool) (n : ℕ) (e : Event
           (λ (less : k ≤ n). l.last.no_later k more less o)
           (let h : k ≤ suc n = most in grind (arith));
     };
-    none = λ j x most less ran.
+    none = λ j x most less done.
         ⊎_elim
-        (λ (at : j ≡ n). none_now x (subst (λ (k : ℕ). Executes f input k x) at ran))
-        (λ (before : j < n). l.none j x most before ran)
+        (λ (at : j ≡ n). none_now x (subst (λ (k : ℕ). Executes f input k x) at done))
+        (λ (earlier : j < n). l.none j x most earlier done)
         (let h : j < suc n = less in grind (arith));
   }
 
@@ -126,11 +51,11 @@ module _ (f : FuncState) (input : Input) (E : ℕ → Bool) (n : ℕ) (e : Event
 module _ (f : FuncState) (input : Input) (E S : ℕ → Bool) (n : ℕ) (t : State) (on : IsOn f input n t) where
   -- the step runs what stands at its place
   ran_there : (o : Option Placed) → inst_of f t ≡ o → (x : Placed) → Executes f input n x → o ≡ Some x
-  ran_there o is x ran = let same : ran.0 ≡ t = on_one (sym ran.1 ∙ on) in sym is ∙ ap (inst_of f) (sym same) ∙ ran.2
+  ran_there o is x done = let same = one_state f input n done.0 t done.1 on in sym is ∙ ap (inst_of f) (sym same) ∙ done.2
 
   none_counted : (x : Placed) → inst_of f t ≡ Some x → E x.number ≡ false → (y : Placed) → Executes f input n y → E y.number ≡ false
-  none_counted x is not y ran =
-      let same : Some x ≡ Some y = ran_there (Some x) is y ran in
+  none_counted x is not y done =
+      let same : Some x ≡ Some y = ran_there (Some x) is y done in
       let this : x ≡ y = cc in
       ap (λ (z : Placed). E z.number) (sym this) ∙ not
 
@@ -141,7 +66,7 @@ module _ (f : FuncState) (input : Input) (E S : ℕ → Bool) (n : ℕ) (t : Sta
       let this : x ≡ o.0 = cc in
       both_ways (E x.number) not (ap (λ (y : Placed). E y.number) this ∙ ap E o.2 ∙ counts)
   nothing_ran x is not (Phi b) counts o =
-      let same : o.0 ≡ t = on_one (sym o.2 ∙ on) in
+      let same = one_state f input n o.0 t o.2 on in
       let never : Some x ≡ None = sym is ∙ ap (inst_of f) (sym same) ∙ o.3 in
       cc
   nothing_ran x is not Entry counts o = omega arith
@@ -150,7 +75,7 @@ module _ (f : FuncState) (input : Input) (E S : ℕ → Bool) (n : ℕ) (t : Sta
   nothing_came : (s : State) → inst_of f t ≡ None → IsOn f input (suc n) s → S s.block ≡ false → (e : Event) → Counts E S e → Occurs f input e (suc n) → ⊥
   nothing_came s is on_s not (Of i) counts o = let never : None ≡ Some o.0 = ran_there None is o.0 o.1 in cc
   nothing_came s is on_s not (Phi b) counts o =
-      let same : o.1 ≡ s = on_one (sym o.4 ∙ on_s) in
+      let same = one_state f input (suc n) o.1 s o.4 on_s in
       both_ways (S s.block) not (ap (λ (x : State). S x.block) (sym same) ∙ ap S o.5 ∙ counts)
   nothing_came s is on_s not Entry counts o = omega arith
 
@@ -176,52 +101,51 @@ module _ (f : FuncState) (E S : ℕ → Bool) (input : Input) where
   }
 
   module _ (n : ℕ) (t s : State) (on : IsOn f input n t) (on_s : IsOn f input (suc n) s) (so_far : Follows f E S input n t.block t.place) where
-    abbrev before : Event
-    before = last_event_at (graph_of f.blocks) E S t.block t.place so_far.path
+    abbrev so_last : Event
+    so_last = last_event_at (graph_of f.blocks) E S t.block t.place so_far.path
 
-    ran_last : (x : Placed) → inst_of f t ≡ Some x → Last f input E (suc n) (if E x.number then Of x.number else before)
+    ran_last : (x : Placed) → inst_of f t ≡ Some x → Last f input E (suc n) (if E x.number then Of x.number else so_last)
     ran_last x is =
         ⊎_elim
         (λ (c : E x.number ≡ true). rw c (comes f input E (suc n) (Of x.number) (x, (t, on, is), refl)))
         (λ (not : E x.number ≡ false).
-        rw not (stays f input E n before so_far.last
-        (nothing_ran f input E S n t on x is not before (counts_at (graph_of f.blocks) E S t.block t.place so_far.path))
+        rw not (stays f input E n so_last so_far.last
+        (nothing_ran f input E S n t on x is not so_last (counts_at (graph_of f.blocks) E S t.block t.place so_far.path))
         (none_counted f input E S n t on x is not)))
         (cases_Bool (E x.number))
 
-    ran : (x : Placed) → inst_of f t ≡ Some x → IsNext t s → Follows f E S input (suc n) s.block s.place
-    ran x is i =
+    ran_on : (x : Placed) → inst_of f t ≡ Some x → s.block ≡ t.block → s.place ≡ t.place + 1 → Follows f E S input (suc n) s.block s.place
+    ran_on x is block place =
         let here : Follows f E S input (suc n) t.block (t.place + 1) =
         record { path = so_far.path; is_path = so_far.is_path; last = subst (Last f input E (suc n)) (sym (at_behind f.blocks E S t.block t.place so_far.path x is)) (ran_last x is) } in
-        subst (λ (b : ℕ). Follows f E S input (suc n) b s.place) (sym i.block) (subst (Follows f E S input (suc n) t.block) (sym i.place) here)
+        subst (λ (b : ℕ). Follows f E S input (suc n) b s.place) (sym block) (subst (Follows f E S input (suc n) t.block) (sym place) here)
 
-    left : CountsNoPhi f E → inst_of f t ≡ None → HasLeft f (slice_index_or f.blocks t.block no_block).term s → Follows f E S input (suc n) s.block s.place
-    left no_phi is h =
+    left_for : CountsNoPhi f E → inst_of f t ≡ None → HasEdge (graph_of f.blocks) t.block s.block → s.place ≡ phis_among (insts_at f.blocks s.block) → Follows f E S input (suc n) s.block s.place
+    left_for no_phi is edge place =
         let path : List ℕ = t.block ∷ so_far.path in
-        let came : Last f input E (suc n) (with_entered S s.block before) =
-        begins (suc n) s.block before
+        let came : Last f input E (suc n) (with_entered S s.block so_last) =
+        begins (suc n) s.block so_last
         (λ _. (t, s, on, is, on_s, refl))
-        (λ not. stays f input E n before so_far.last
-        (nothing_came f input E S n t on s is on_s not before (counts_at (graph_of f.blocks) E S t.block t.place so_far.path))
-        (λ y ran. let never : None ≡ Some y = ran_there f input E S n t on None is y ran in cc)) in
-        let edge : HasEdge (graph_of f.blocks) t.block s.block =
-        subst (λ (l : List ℕ). Contains l s.block) (sym (next_at f.blocks t.block))
-        (subst (Contains (successors (slice_index_or f.blocks t.block no_block).term)) (sym h.inside.block) h.edge) in
-        let place : s.place ≡ phis_among (insts_at f.blocks s.block) = h.inside.place ∙ ap (λ (b : ℕ). phis_among (insts_at f.blocks b)) (sym h.inside.block) in
-        let event : last_event_at (graph_of f.blocks) E S s.block s.place path ≡ with_entered S s.block before =
+        (λ not. stays f input E n so_last so_far.last
+        (nothing_came f input E S n t on s is on_s not so_last (counts_at (graph_of f.blocks) E S t.block t.place so_far.path))
+        (λ y done. let never : None ≡ Some y = ran_there f input E S n t on None is y done in cc)) in
+        let event : last_event_at (graph_of f.blocks) E S s.block s.place path ≡ with_entered S s.block so_last =
         at_phis f.blocks E S s.block s.place path (no_phi s.block) (omega arith)
         ∙ ap (with_entered S s.block) (sym (at_end f.blocks E S t.block t.place so_far.path is)) in
         record { path = path; is_path = (edge, so_far.is_path); last = subst (Last f input E (suc n)) (sym event) came }
 
-    stepped : CountsNoPhi f E → (o : Option Placed) → inst_of f t ≡ o → step_at f t o ≡ On s → Follows f E S input (suc n) s.block s.place
-    stepped no_phi None is e = left no_phi is (has_left f t (slice_index_or f.blocks t.block no_block).term s e)
-    stepped no_phi (Some x) is e = ran x is (done t x.result (doing t x.inst) s e)
+    stepped : CountsNoPhi f E → Goes f t s → Follows f E S input (suc n) s.block s.place
+    stepped no_phi (ran x d is does same) = ran_on x is (ap (λ (u : State). u.block) same) (ap (λ (u : State). u.place) same)
+    stepped no_phi (left b locals is edge phis same) =
+        let block : s.block ≡ b = ap (λ (u : State). u.block) same in
+        left_for no_phi is (subst (λ c. HasEdge (graph_of f.blocks) t.block c) (sym block) edge)
+        (ap (λ (u : State). u.place) same ∙ ap (λ c. phis_among (insts_at f.blocks c)) (sym block))
 
   follow : CountsNoPhi f E → (n : ℕ) (s : State) → IsOn f input n s → Follows f E S input n s.block s.place
-  follow no_phi zero s on = subst (λ (x : State). Follows f E S input 0 x.block x.place) (on_one on) at_start
+  follow no_phi zero s on = subst (λ (x : State). Follows f E S input 0 x.block x.place) (one_state f input 0 (begun input) s refl on) at_start
   follow no_phi (suc n) s on =
-      let c = came_from f (moment f input n) s on in
-      stepped n c.t s c.was on (follow no_phi n c.t c.was) no_phi (inst_of f c.t) refl c.stepped
+      let c = before f input n s on in
+      stepped n c.0 s c.1 on (follow no_phi n c.0 c.1) no_phi (goes f c.0 s c.2)
 
 -- before a phi the last event is the one behind all phis of the block
 before_phi : (blocks : List Block) (E S : ℕ → Bool) (b k : ℕ) (p : List ℕ) → NoPhiCounts E (insts_at blocks b) →

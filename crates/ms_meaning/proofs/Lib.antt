@@ -1,3 +1,4 @@
 pub mod Transitive
 pub mod LastEvents
+pub mod Goes
 pub mod Follows

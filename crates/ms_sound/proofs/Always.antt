@@ -4,7 +4,7 @@ use Rattle.std.specs.Prelude.{Contains, slice_get, map}
 use Rattle.std.proofs.lemmas.Bool.{false≢true}
 use Rattle.std.proofs.lemmas.List.{length-append}
 use Rattle.ms_paths.specs.Flow.{HasEdge}
-use Rattle.ms_flow.specs.Table.{edges_of}
+use Rattle.ms_ir.specs.Graph.{graph_of}
 use Rattle.ms_ir.specs.declared.names.Param.{Param}
 use Rattle.ms_ir.specs.declared.names.LocalNo.{LocalNo}
 use Rattle.ms_ir.specs.declared.inst.Inst.{Inst}
@@ -24,8 +24,8 @@ use Rattle.ms_meaning.specs.Steps.{Deed, Doing, Does, Waits, Fails, doing, is_ph
 use Rattle.ms_meaning.specs.Traces.{IsOn, inst_of}
 use Rattle.ms_sound.specs.Objects.{Denotes, IsKnownObject}
 use Rattle.ms_sound.specs.Bytes.{BeginsOnce}
-use Rattle.ms_sound.proofs.Goes.{Goes, ran, left, goes}
-use Rattle.ms_sound.proofs.Walks.{before, one_state, split}
+use Rattle.ms_meaning.proofs.Goes.{before, one_state, Goes, ran, left, goes}
+use Rattle.ms_sound.proofs.Walks.{split}
 use Rattle.ms_sound.proofs.Chains.{root_base}
 use Rattle.ms_sound.proofs.Told.{Told, Keeps, keeps_none, keeps_both, told_later, told_root, denotes_later}
 use Rattle.ms_sound.proofs.Given.{Gives, MadeFrom, given}
@@ -147,7 +147,7 @@ given_inst f t s l g a =
     ⊎_elim
     (λ (run : (is_phi g.inst.inst ≡ false) × (t.block ≡ s.block) × (t.place ≡ g.place)).
     ap (λ b. slice_get (insts_at f.blocks b) t.place) run.1 ∙ ap (slice_get (insts_at f.blocks s.block)) run.2 ∙ g.found)
-    (λ (come : (is_phi g.inst.inst ≡ true) × HasEdge (edges_of f.blocks) t.block s.block). absurd (no_alloca_phi g.inst.inst a come.0))
+    (λ (come : (is_phi g.inst.inst ≡ true) × HasEdge (graph_of f.blocks) t.block s.block). absurd (no_alloca_phi g.inst.inst a come.0))
     g.by
 
 grown : (f : FuncState) (t s : State) → Goes f t s → length t.objects ≤ length s.objects
@@ -271,7 +271,7 @@ module _ (f : FuncState) (input : Input) (fits : IsInput f input) (numbered : Is
     later (m, u, there, block, inl was) = (m, u, there, block, inl ((let p = was.0 in omega arith), was.1))
     later (m, u, there, block, inr was) = (m, u, there, block, inr ((let p = was.0 in omega arith), was.1))
 
-    by_step : (g : Gives f t s l) → ((is_phi g.inst.inst ≡ false) × (t.block ≡ s.block) × (t.place ≡ g.place)) ⊎ ((is_phi g.inst.inst ≡ true) × HasEdge (edges_of f.blocks) t.block s.block) → RanBefore f input (suc n) b k x
+    by_step : (g : Gives f t s l) → ((is_phi g.inst.inst ≡ false) × (t.block ≡ s.block) × (t.place ≡ g.place)) ⊎ ((is_phi g.inst.inst ≡ true) × HasEdge (graph_of f.blocks) t.block s.block) → RanBefore f input (suc n) b k x
     by_step g (inl run) = let one = same_giver l g b k x giver in (n, t, h.on, run.1 ∙ one.0, inl (omega arith, run.2 ∙ one.1))
     by_step g (inr come) = let one = same_giver l g b k x giver in (suc n, s, on, one.0, inr (omega arith, ap (λ (y : Placed). is_phi y.inst) (sym one.2) ∙ come.0))
 

@@ -1,5 +1,5 @@
 -- Clobbers hold on every run.
-use Rattle.std.proofs.Common.{◌≡◌, ◌∙◌, ◌<◌, ◌≤◌, ℕ, Bool, true, false, List, [], Option, Some, None, refl, sym, ap, subst, ⊎_elim, arith}
+use Rattle.std.proofs.Common.{◌≡◌, ◌∙◌, ◌<◌, ◌≤◌, ℕ, Bool, true, false, List, Option, Some, None, refl, sym, ap, subst, ⊎_elim, arith}
 use Rattle.std.specs.Prelude.{◌↔◌, Contains, IsTrue, slice_get}
 use Rattle.std.proofs.lemmas.Bool.{cases_Bool, false≢true}
 use Rattle.ms_paths.specs.Flow.{Event, IsAnswer, IsPath, last_event_at}
@@ -16,6 +16,7 @@ use Rattle.ms_meaning.specs.States.{Input, State, IsInput}
 use Rattle.ms_meaning.specs.Steps.{is_phi}
 use Rattle.ms_meaning.specs.Traces.{IsOn, inst_of, written_of, written_at, IsAboutTo, OccursLast, CountsNoPhi, RunsNone}
 use Rattle.ms_sound.specs.Bytes.{IsByteOf, BeginsOnce, IsSound}
+use Rattle.ms_sound.proofs.Touches.{none_in}
 use Rattle.ms_sound.proofs.Meets.{write_told}
 
 abbrev RunsFollowPaths : Type 0
@@ -53,9 +54,6 @@ module _ (f : FuncState) (numbered : IsNumbered f) (E : ℕ → Bool) (loc : Loc
       (λ (n : E x.number ≡ false). n)
       (cases_Bool (E x.number))
 
-none_there : {A : Type 0} {x : A} → Contains [] x → ⊥
-none_there h = let lt : h.0 < 0 = h.1 in omega arith
-
 pub sound : RunsFollowPaths → (f : FuncState) → IsNumbered f → BeginsOnce f → (E : ℕ → Bool) (loc : Loc) → ((j : ℕ) → IsTrue (E j) ↔ MayWrite f j loc) →
     (i b k : ℕ) (x : Placed) (e : Event) → IsAt f.blocks i b k x → IsAnswer (graph_of f.blocks) E b k e → IsSound f i loc e
 sound follow f numbered once E loc writers i b k x e there answer = record { each = each } where
@@ -70,7 +68,7 @@ sound follow f numbered once E loc writers i b k x e there answer = record { eac
         quiet : (m : ℕ) → RunsNone f input E m n → (l : ℕ) (t : State) → m ≤ l → l < n → IsOn f input l t → (w : Written) → Contains (written_of f t) w → IsByteOf f s loc w.object w.offset → ⊥
         quiet m none l t low high there w writes byte = by_inst (inst_of f t) refl where
           by_inst : (o : Option Placed) → inst_of f t ≡ o → ⊥
-          by_inst None is = none_there (subst (λ o. Contains (written_at t o) w) is writes)
+          by_inst None is = none_in (subst (λ o. Contains (written_at t o) w) is writes)
           by_inst (Some z) is =
               write_told f numbered once input fits l n t s (omega arith) there on z is w writes loc byte
               (λ may. false≢true (sym (none l z low high (t, there, is)) ∙ (writers z.number).1 may))

@@ -14,7 +14,7 @@ use Rattle.ms_ir.specs.declared.names.FuncNo.{FuncNo}
 use Rattle.ms_ir.specs.declared.inst.Inst.{Inst}
 use Rattle.ms_ir.specs.declared.inst.Inst.TheVariants.{Alloca, Gep, Load, Store, Copy, Call, Bin, Cmp, Select, Cast, Phi}
 use Rattle.ms_ir.specs.Func.{Placed, FuncState, insts_at}
-use Rattle.ms_flow.specs.Table.{edges_of}
+use Rattle.ms_ir.specs.Graph.{graph_of}
 use Rattle.ms_alias.specs.Roots.{is_pointer}
 use Rattle.ms_alias.proofs.Makers.{pick, is_number}
 use Rattle.ms_meaning.specs.Values.{Byte, Value, bytes_of, Number, Pointer, bits, type_of, loaded, size_of, is_integer}
@@ -23,7 +23,7 @@ use Rattle.ms_meaning.specs.Memory.{read, spread, has_bytes, object_at, overlap_
 use Rattle.ms_meaning.specs.States.{State, Answer, Made, value_of, value_as, operand_of, with_local, number_as}
 use Rattle.ms_meaning.specs.Calls.{values_of, escaped_with, is_result, are_reached}
 use Rattle.ms_meaning.specs.Steps.{Deed, quiet, gives, Doing, Does, Waits, Fails, doing, from_one, from_two, gives_number, gives_bytes, loads, stores, copies, writes_bytes, chooses, moves, calls, answered, made_call, is_offset, with_result, is_phi, with_phi, with_phis, phi_value, value_from}
-use Rattle.ms_sound.proofs.Goes.{Goes, ran, left}
+use Rattle.ms_meaning.proofs.Goes.{Goes, ran, left}
 
 -- the pointer that an instruction gives comes from one of these
 abbrev pub MadeFrom : State → Inst → ℕ → ℤ → Type 0
@@ -247,7 +247,7 @@ pub record Gives (f : FuncState) (t s : State) (l : LocalNo) : Type 0 where
   pub inst : Placed
   pub found : slice_get (insts_at f.blocks s.block) place ≡ Some inst
   pub result : inst.result ≡ Some l
-  pub by : ((is_phi inst.inst ≡ false) × (t.block ≡ s.block) × (t.place ≡ place)) ⊎ ((is_phi inst.inst ≡ true) × HasEdge (edges_of f.blocks) t.block s.block)
+  pub by : ((is_phi inst.inst ≡ false) × (t.block ≡ s.block) × (t.place ≡ place)) ⊎ ((is_phi inst.inst ≡ true) × HasEdge (graph_of f.blocks) t.block s.block)
   pub from : (o : ℕ) (at : ℤ) → s.locals l.0 ≡ Some (Pointer o at) → MadeFrom t inst.inst o at
 
 result_there : (r : Option LocalNo) (v : Option Value) (locals : ℕ → Option Value) (l : LocalNo) → (with_result r v locals l.0 ≡ locals l.0) ⊎ ((r ≡ Some l) × (with_result r v locals l.0 ≡ v))
@@ -287,7 +287,7 @@ given f t s (left b locals e edge phis same) l =
       inst = g.1;
       found = ap (λ c. slice_get (insts_at f.blocks c) g.0) block ∙ g.2;
       result = g.4;
-      by = inr (g.3, subst (λ c. HasEdge (edges_of f.blocks) t.block c) (sym block) edge);
+      by = inr (g.3, subst (λ c. HasEdge (graph_of f.blocks) t.block c) (sym block) edge);
       from = λ o at p. phi_from t t.block g.1.inst o at (sym (value ∙ g.5) ∙ p);
     }))
     (phis_there t t.block (insts_at f.blocks b) locals l phis)

@@ -5,6 +5,7 @@ use Rattle.ms_paths.specs.Flow.{HasEdge}
 use Rattle.ms_ir.specs.declared.names.LocalNo.{LocalNo}
 use Rattle.ms_ir.specs.Func.{Placed, FuncState}
 use Rattle.ms_ir.specs.Locals.{IsNumbered, IsGiver}
+use Rattle.ms_ir.specs.Graph.{graph_of}
 use Rattle.ms_flow.specs.Table.{edges_of}
 use Rattle.ms_flow.specs.Flow.{IsOnCycle}
 use Rattle.ms_alias.specs.declared.loc.Root.TheVariants.{Local}
@@ -16,7 +17,7 @@ use Rattle.ms_meaning.specs.States.{Input, State}
 use Rattle.ms_meaning.specs.Steps.{is_phi}
 use Rattle.ms_meaning.specs.Traces.{IsOn}
 use Rattle.ms_sound.specs.Bytes.{BeginsOnce}
-use Rattle.ms_sound.proofs.Goes.{Goes, ran, left}
+use Rattle.ms_meaning.proofs.Goes.{Goes, ran, left}
 use Rattle.ms_sound.proofs.Walks.{comes_again, enters_again}
 use Rattle.ms_sound.proofs.Given.{Gives, given}
 use Rattle.ms_sound.specs.Objects.{IsKnownObject}
@@ -40,7 +41,7 @@ pub record Holds (f : FuncState) (input : Input) (n : ℕ) (s : State) : Type 0 
 -- a local that has a value is given one again only on a cycle
 given_again : (f : FuncState) (input : Input) (n : ℕ) (t s : State) (l : LocalNo) (v : Value) → Holds f input n t → Gives f t s l → t.locals l.0 ≡ Some v → IsOnCycle (edges_of f.blocks) s.block
 given_again f input n t s l v h g e = again g.by (h.before l s.block g.place g.inst (record { found = g.found; gives = g.result }) v e) where
-  again : ((is_phi g.inst.inst ≡ false) × (t.block ≡ s.block) × (t.place ≡ g.place)) ⊎ ((is_phi g.inst.inst ≡ true) × HasEdge (edges_of f.blocks) t.block s.block)
+  again : ((is_phi g.inst.inst ≡ false) × (t.block ≡ s.block) × (t.place ≡ g.place)) ⊎ ((is_phi g.inst.inst ≡ true) × HasEdge (graph_of f.blocks) t.block s.block)
       → RanBefore f input n s.block g.place g.inst → IsOnCycle (edges_of f.blocks) s.block
   again (inl run) (m, u, on, block, inl was) =
       subst (λ b. IsOnCycle (edges_of f.blocks) b) run.1

@@ -1,4 +1,3 @@
-pub mod Goes
 pub mod Walks
 pub mod Chains
 pub mod Told

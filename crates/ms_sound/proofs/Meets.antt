@@ -1,11 +1,12 @@
 -- A byte that is written is one that may be written, and so clobbers hold on every run.
-use Rattle.std.proofs.Common.{◌≡◌, ◌∙◌, ◌<◌, ◌≤◌, ℕ, zero, suc, ℤ, pos, ◌+ℤ◌, true, false, cond, List, [], ◌∷◌, length, Some, None, refl, sym, ap, subst, inl, inr, ⊎_elim, arith}
-use Rattle.std.specs.Prelude.{Contains, slice_get, nat_lt, ◌-ℤ◌, ◌≤ℤ◌, ◌<ℤ◌}
+use Rattle.std.proofs.Common.{◌≡◌, ◌∙◌, ◌<◌, ◌≤◌, ℕ, ℤ, pos, ◌+ℤ◌, true, false, cond, Some, None, refl, sym, ap, subst, inl, inr, ⊎_elim, arith}
+use Rattle.std.specs.Prelude.{Contains, nat_lt, ◌-ℤ◌, ◌≤ℤ◌, ◌<ℤ◌}
 use Rattle.std.proofs.lemmas.Bool.{cases_Bool, ltb-true}
 use Rattle.std.proofs.lemmas.Int.{ints}
 use Rattle.ms_ir.specs.declared.names.GlobalNo.{GlobalNo}
-use Rattle.ms_ir.specs.Func.{Placed, Block, FuncState, insts_at}
+use Rattle.ms_ir.specs.Func.{Placed, FuncState}
 use Rattle.ms_ir.specs.Locals.{IsNumbered}
+use Rattle.ms_ir.proofs.FuncLemmas.{block_there}
 use Rattle.ms_alias.specs.declared.loc.Root.{Root}
 use Rattle.ms_alias.specs.declared.loc.Root.TheVariants.{Local, Global}
 use Rattle.ms_alias.specs.declared.loc.Loc.{Loc}
@@ -78,11 +79,6 @@ meet f input n t s h keep u v o k p q never =
       has_length f s v o k q.near,
       (p.base, q.base, p.reached, q.reached, one_object f input n s h p.base q.base o (denotes_later f t s p.base o keep p.denotes) q.denotes),
     ))
-
-block_there : (blocks : List Block) (b k : ℕ) (x : Placed) → slice_get (insts_at blocks b) k ≡ Some x → b < length blocks
-block_there [] b k x e = cc
-block_there (y ∷ blocks) zero k x e = omega arith
-block_there (y ∷ blocks) (suc b) k x e = let rest = block_there blocks b k x e in omega arith
 
 module _ (f : FuncState) (input : Input) (fits : IsInput f input) (n : ℕ) (s : State) (h : Holds f input n s) where
   root_touches : (r : Root) (from at : ℤ) (len : ℕ) (o : ℕ) (k : ℤ) → root_value s r ≡ Some (Pointer o at) → HoldsByte (at +ℤ from) len k → Touches f s (Span r from len) o k

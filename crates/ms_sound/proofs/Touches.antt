@@ -45,7 +45,7 @@ pub record Touches (f : FuncState) (s : State) (u : Reach) (o : ℕ) (k : ℤ) :
   pub denotes : Denotes f s base o
   pub near : IsNear f s u o k
 
-none_in : {A : Type 0} {x : A} → Contains [] x → ⊥
+pub none_in : {A : Type 0} {x : A} → Contains [] x → ⊥
 none_in h = let lt : h.0 < 0 = h.1 in omega arith
 
 -- ---- ranges

@@ -5,35 +5,18 @@ use Rattle.std.proofs.lemmas.Bool.{cases_Bool}
 use Rattle.std.proofs.lemmas.Bool.Decides.{nat_tests}
 use Rattle.ms_paths.specs.Flow.{Block as Run, HasEdge, IsWalk, IsPath, IsReached}
 use Rattle.ms_ir.specs.Func.{FuncState}
+use Rattle.ms_ir.specs.Graph.{graph_of}
 use Rattle.ms_flow.specs.Table.{edges_of}
+use Rattle.ms_flow.proofs.Same.{reached_same, walks_same}
 use Rattle.ms_flow.specs.Flow.{IsOnCycle}
 use Rattle.ms_meaning.specs.States.{Input, State, begun}
-use Rattle.ms_meaning.specs.Steps.{Moment, On, Over, Waiting, Lost, next, step}
-use Rattle.ms_meaning.specs.Runs.{moment}
 use Rattle.ms_meaning.specs.Traces.{IsOn}
-use Rattle.ms_sound.proofs.Goes.{Goes, ran, left, goes}
-
--- the state before a step
-abbrev pub IsBefore : FuncState → Input → ℕ → State → Type 0
-IsBefore f input n s = (t : State) × IsOn f input n t × (step f t ≡ On s)
-
-before_by : (f : FuncState) (input : Input) (n : ℕ) (s : State) (m : Moment) → moment f input n ≡ m → next f m ≡ On s → IsBefore f input n s
-before_by f input n s (On t) e h = (t, e, h)
-before_by f input n s (Over r t) e h = cc
-before_by f input n s (Waiting t) e h = cc
-before_by f input n s Lost e h = cc
-
-pub before : (f : FuncState) (input : Input) (n : ℕ) (s : State) → IsOn f input (suc n) s → IsBefore f input n s
-before f input n s h = before_by f input n s (moment f input n) refl h
-
--- the two states of one moment
-pub one_state : (f : FuncState) (input : Input) (n : ℕ) (t s : State) → IsOn f input n t → IsOn f input n s → t ≡ s
-one_state f input n t s p q = let same : On t ≡ On s = sym p ∙ q in cc
+use Rattle.ms_meaning.proofs.Goes.{Goes, ran, left, goes, before, one_state}
 
 -- a walk from the block at one moment to that at a later one; without an edge, a place further for each step
 pub record Joins (f : FuncState) (t s : State) (m n : ℕ) : Type 0 where
   pub way : List ℕ
-  pub walk : IsWalk (edges_of f.blocks) t.block s.block way
+  pub walk : IsWalk (graph_of f.blocks) t.block s.block way
   pub flat : way ≡ [] → t.place + n ≤ s.place + m
 
 at_once : (f : FuncState) (t s : State) (m : ℕ) → t ≡ s → Joins f t s m m
@@ -69,8 +52,12 @@ walk_path g a b [] z h = sym h ∙ z
 walk_path g a b (c ∷ w) z h = (h.0, walk_path g a c w z h.1)
 
 -- the block of a moment is reached
-pub reached : (f : FuncState) (input : Input) (n : ℕ) (s : State) → IsOn f input n s → IsReached (edges_of f.blocks) s.block
-reached f input n s h = let j = joined f input zero n (begun input) s (omega arith) refl h in (j.way, walk_path (edges_of f.blocks) 0 s.block j.way refl j.walk)
+pub reached : (f : FuncState) (input : Input) (n : ℕ) (s : State) → IsOn f input n s → IsReached (graph_of f.blocks) s.block
+reached f input n s h = let j = joined f input zero n (begun input) s (omega arith) refl h in (j.way, walk_path (graph_of f.blocks) 0 s.block j.way refl j.walk)
+
+-- a closed walk is a cycle of the graph without its instructions, too
+on_cycle : (f : FuncState) (b : ℕ) (c : ℕ) (w : List ℕ) → IsReached (graph_of f.blocks) b → IsWalk (graph_of f.blocks) b b (c ∷ w) → IsOnCycle (edges_of f.blocks) b
+on_cycle f b c w r walk = ((reached_same f.blocks b).1 r, (c, w, (walks_same f.blocks b b (c ∷ w)).1 walk))
 
 nonempty : (g : List Run) (a b : ℕ) (w : List ℕ) → IsWalk g a b w → (w ≡ [] → ⊥) → (c : ℕ) × (v : List ℕ) × IsWalk g a b (c ∷ v)
 nonempty g a b [] h some = absurd (some refl)
@@ -82,12 +69,13 @@ pub comes_again : (f : FuncState) (input : Input) (m n : ℕ) (t s : State) → 
 comes_again f input m n t s lt p q same place =
     let j = joined f input m n t s (omega arith) p q in
     let some : j.way ≡ [] → ⊥ = λ e. let flat = j.flat e in omega arith in
-    (reached f input n s q, nonempty (edges_of f.blocks) s.block s.block j.way (subst (λ a. IsWalk (edges_of f.blocks) a s.block j.way) same j.walk) some)
+    let closed = nonempty (graph_of f.blocks) s.block s.block j.way (subst (λ a. IsWalk (graph_of f.blocks) a s.block j.way) same j.walk) some in
+    on_cycle f s.block closed.0 closed.1 (reached f input n s q) closed.2
 
 -- and so is a block that is entered after it was there
-pub enters_again : (f : FuncState) (input : Input) (m n : ℕ) (t s : State) (b : ℕ) → m ≤ n → IsOn f input m t → IsOn f input n s → t.block ≡ b → HasEdge (edges_of f.blocks) s.block b →
+pub enters_again : (f : FuncState) (input : Input) (m n : ℕ) (t s : State) (b : ℕ) → m ≤ n → IsOn f input m t → IsOn f input n s → t.block ≡ b → HasEdge (graph_of f.blocks) s.block b →
     IsOnCycle (edges_of f.blocks) b
 enters_again f input m n t s b le p q same edge =
     let j = joined f input m n t s le p q in
     let to = reached f input n s q in
-    ((s.block ∷ to.0, (edge, to.1)), (s.block, j.way, (edge, subst (λ a. IsWalk (edges_of f.blocks) a s.block j.way) same j.walk)))
+    on_cycle f b s.block j.way (s.block ∷ to.0, (edge, to.1)) (edge, subst (λ a. IsWalk (graph_of f.blocks) a s.block j.way) same j.walk)
