@@ -16,3 +16,4 @@ pub mod Locations
 pub mod Asked
 pub mod Edits
 pub mod Same
+pub mod Cuts

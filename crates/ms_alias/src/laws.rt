@@ -4,13 +4,14 @@ ghost use Rattle.ms_ir.specs.declared.names.InstNo.{InstNo};
 ghost use Rattle.ms_ir.specs.declared.names.Name.{Name};
 ghost use Rattle.ms_ir.specs.declared.inst.Inst.{Inst};
 ghost use Rattle.ms_ir.specs.Func.{FuncState, IsTaken, after_put};
+ghost use Rattle.ms_ir.specs.Changes.{with_edge_cut};
 ghost use Rattle.ms_ir.specs.Locals.{IsNumbered};
 ghost use Rattle.ms_alias.specs.declared.loc.Loc.{Loc};
 ghost use Rattle.ms_alias.specs.Roots.{makes_pointer};
 ghost use Rattle.ms_alias.specs.Reaches.{ReadsLoc, WritesLoc};
 ghost use Rattle.ms_alias.specs.Meeting.{MayWrite, MayRead};
 ghost use Rattle.ms_alias.specs.Tests.{may_write_by, may_read_by};
-ghost use Rattle.ms_alias.specs.Tables.{AliasState, HasPointers, IsAliasOf, IsCapturesBut};
+ghost use Rattle.ms_alias.specs.Tables.{AliasState, HasPointers, IsAliasOf, IsReady, IsCapturesBut};
 
 /// The tests over the tables of a function hold of exactly the instructions that may write a location, and of those that may read
 /// it.
@@ -26,10 +27,11 @@ pub fn one_location()
 {}
 
 /// Tables stay the function's, but for the captured allocas, when an instruction that makes no pointer is put; and they are
-/// the function's again once an instruction is taken that makes none and was noted.
+/// the function's again once an instruction is taken that makes none and was noted. Where an edge is cut, they are ready to be renewed.
 pub fn tables_kept()
     ensures put { (f : FuncState) (a : AliasState) (b place : ℕ) (inst : Inst) (name : Name) → makes_pointer inst ≡ false → IsAliasOf f a → HasPointers (after_put f b place inst name) a }
     ensures take { (f g : FuncState) (a : AliasState) (i : InstNo) (inst : Inst) → IsNumbered f → IsTaken f g i.0 inst → makes_pointer inst ≡ false → HasPointers f a
         → IsCapturesBut a.bases f (Some i) a.captured → IsAliasOf g a }
     ensures pointers { (f : FuncState) (a : AliasState) → IsAliasOf f a → HasPointers f a }
+    ensures cut { (f : FuncState) (a : AliasState) (b slot : ℕ) → IsAliasOf f a → IsReady (with_edge_cut f b slot) a }
 {}

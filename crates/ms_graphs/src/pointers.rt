@@ -665,6 +665,7 @@ fn cut_back(rt: &impl Abort, alloc: Global, f: &mut Func, alias: &mut Alias)
     requires { IsAliasOf f.old alias.old }
     ensures { IsAliasOf f.new alias.new }
 {
+    tables_kept();
     let mut steps = Steps::new(alloc).ok().expect(rt, "memory");
     cut(rt, f, BlockNo(1), 0, &mut steps);
     let flow = flow_of(rt, alloc, f);

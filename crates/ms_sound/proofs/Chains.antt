@@ -10,6 +10,7 @@ use Rattle.ms_alias.specs.declared.loc.Root.TheVariants.{Local, Global}
 use Rattle.ms_alias.specs.Roots.{Maker, Step, maker_of, pointer_of, step_by, step_in, step_by_maker, step_of, IsRing, IsRootAfter, HasRoot}
 use Rattle.ms_alias.specs.Bases.{Base, HasBase, leads_of, leads_in, sources_in, pointers_in, with_pointer}
 use Rattle.ms_alias.proofs.Rings.{no_ring}
+use Rattle.ms_alias.proofs.Cuts.{with_more}
 
 -- n getelementptrs lead back from p to r, which no getelementptr makes, and their bytes make up this sum
 abbrev pub Ends : FuncState → ℕ → Root → Root → ℤ → Type 0
@@ -65,10 +66,6 @@ pub ends_root : (f : FuncState) (n : ℕ) (p r : Root) (sum : ℤ) → Ends f n 
 ends_root f n p r sum h = (n, root_after f n p r sum h)
 
 -- a pointer among some values
-with_more : (o : Option Root) (ps : List Root) (p : Root) → Contains ps p → Contains (with_pointer o ps) p
-with_more None ps p h = h
-with_more (Some q) ps p h = (suc h.0, omega arith, h.2)
-
 with_here : (o : Option Root) (ps : List Root) (p : Root) → o ≡ Some p → Contains (with_pointer o ps) p
 with_here None ps p e = cc
 with_here (Some q) ps p e = (zero, omega arith, (let is : q ≡ p = cc in is))

@@ -22,7 +22,7 @@ use Rattle.ms_alias.specs.Tables.{AliasState, BasesState, IsFor, IsReady, IsAlia
 
 -- ---- the pointers of a phi that lost an entry
 
-with_more : (o : Option Root) (ps : List Root) (p : Root) → Contains ps p → Contains (with_pointer o ps) p
+pub with_more : (o : Option Root) (ps : List Root) (p : Root) → Contains ps p → Contains (with_pointer o ps) p
 with_more None ps p h = h
 with_more (Some q) ps p h = (suc h.0, let lt = h.1 in omega arith, h.2)
 
