@@ -150,6 +150,25 @@ const ELSEWHERE: Effects = Effects {
     hidden_write: true,
 };
 
+// The same of memory that has a name somewhere, and of memory that no pointer reaches.
+const OUTSIDE: Effects = Effects {
+    arg_read: false,
+    arg_write: false,
+    other_read: true,
+    other_write: true,
+    hidden_read: false,
+    hidden_write: false,
+};
+
+const HIDDEN: Effects = Effects {
+    arg_read: false,
+    arg_write: false,
+    other_read: false,
+    other_write: false,
+    hidden_read: true,
+    hidden_write: true,
+};
+
 // One block: instructions 5 to 10 store through each pointer, 11 to a global; 12 loads from C; 13 copies six bytes from D to A, 14
 // copies none; calls 15 and 16 read and write at B and elsewhere, and 17 does nothing.
 fn straight(rt: &impl Abort, alloc: Global) -> Func {
@@ -428,6 +447,30 @@ fn roots(rt: &impl Abort, f: &Func, alias: &Alias)
         (Root::Global(GLOBAL), true, true),
     ];
     expect_roots(rt, f, alias, &rows);
+}
+
+// Two calls that touch nothing at their pointers meet in memory that has a name somewhere, or in memory that no pointer reaches; where one
+// touches the first alone and the other the second they do not.
+#[test]
+fn two_calls(rt: HostRuntime) {
+    let alloc = rt.alloc();
+    let mut f = function(&rt, alloc, &[&[]]);
+    put(&rt, &mut f, 0, call(&rt, alloc, P, false, OUTSIDE));
+    put(&rt, &mut f, 0, call(&rt, alloc, P, false, HIDDEN));
+    put(&rt, &mut f, 0, call(&rt, alloc, P, false, ELSEWHERE));
+    let flow = flow_of(&rt, alloc, &f);
+    let alias = pointers(&rt, alloc, &f, &flow);
+    let rows = [
+        (0, Loc::ReadBy(InstNo(0)), true, true),
+        (0, Loc::ReadBy(InstNo(1)), false, false),
+        (0, Loc::ReadBy(InstNo(2)), true, true),
+        (1, Loc::ReadBy(InstNo(0)), false, false),
+        (1, Loc::ReadBy(InstNo(1)), true, true),
+        (1, Loc::ReadBy(InstNo(2)), true, true),
+        (0, bytes(P, 0, 4), true, true),
+        (1, bytes(P, 0, 4), false, false),
+    ];
+    expect_meets(&rt, &f, &alias, &rows);
 }
 
 #[test]
