@@ -19,8 +19,10 @@ use ms_ir::{Func, InstNo, NoMemory};
 use std::alloc::Global;
 
 /// The clobber of a location before an instruction: the last one on every path that may write it, with phis where those need
-/// one; the entry where none is before it. The flow graph, the form and the alias table are the function's, and the graph is
-/// reducible. The instruction stands in a reached block. `Err` comes only where memory is wanting.
+/// one; the entry where none is before it. Where allocas stand in the first block, to which no edge leads, it holds on every
+/// run: from when it took place last up to the instruction no step writes a byte of the location. The flow graph, the form and
+/// the alias table are the function's, and the graph is reducible. The instruction stands in a reached block. `Err` comes only
+/// where memory is wanting.
 pub fn walk(
     alloc: Global,
     func: &Func,
