@@ -35,12 +35,12 @@ Lines = List (ℕ × Line)
 
 -- ---- places behind the first block
 
-abbrev raw_alloca : RawInst → Bool
-raw_alloca (raw.Alloca _ _ _) = true
-raw_alloca _ = false
+abbrev is_alloca_sort : Sort → Bool
+is_alloca_sort Alloca = true
+is_alloca_sort _ = false
 
 abbrev HasNoAlloca : InstLine → Type 0
-HasNoAlloca x = raw_alloca x.inst ≡ false
+HasNoAlloca x = is_alloca_sort (sort_of_inst x.inst) ≡ false
 
 abbrev HasNoAllocas : BlockLines → Type 0
 HasNoAllocas b = Each HasNoAlloca b.insts
@@ -61,29 +61,23 @@ abbrev IsLaterNext : Option Place → Type 0
 IsLaterNext None = Unit {0}
 IsLaterNext (Some p) = IsLater p
 
+-- an instruction's line has one of three sorts
+by_sort : (P : Sort → Type 0) → P Alloca → P Phi → P Other → (i : RawInst) → P (sort_of_inst i)
+by_sort P a p o (raw.Alloca _ _ _) = a
+by_sort P a p o (raw.Phi _ _ _) = p
+by_sort P a p o (raw.Gep _ _ _ _ _) = o
+by_sort P a p o (raw.Load _ _ _) = o
+by_sort P a p o (raw.Store _ _ _ _) = o
+by_sort P a p o (raw.Copy _ _ _ _ _ _) = o
+by_sort P a p o (raw.Call _ _ _ _ _ _) = o
+by_sort P a p o (raw.Bin _ _ _ _ _ _) = o
+by_sort P a p o (raw.Cmp _ _ _ _ _ _) = o
+by_sort P a p o (raw.Select _ _ _ _ _) = o
+by_sort P a p o (raw.Cast _ _ _ _ _ _) = o
+
 later_next : (at : Place) (i : RawInst) → IsLater at → IsLaterNext (next_place at (sort_of_inst i))
-later_next (Front false) (raw.Alloca _ _ _) l = tt
-later_next (Front false) (raw.Phi _ _ _) l = tt
-later_next (Front false) (raw.Gep _ _ _ _ _) l = tt
-later_next (Front false) (raw.Load _ _ _) l = tt
-later_next (Front false) (raw.Store _ _ _ _) l = tt
-later_next (Front false) (raw.Copy _ _ _ _ _ _) l = tt
-later_next (Front false) (raw.Call _ _ _ _ _ _) l = tt
-later_next (Front false) (raw.Bin _ _ _ _ _ _) l = tt
-later_next (Front false) (raw.Cmp _ _ _ _ _ _) l = tt
-later_next (Front false) (raw.Select _ _ _ _ _) l = tt
-later_next (Front false) (raw.Cast _ _ _ _ _ _) l = tt
-later_next (Inner false) (raw.Alloca _ _ _) l = tt
-later_next (Inner false) (raw.Phi _ _ _) l = tt
-later_next (Inner false) (raw.Gep _ _ _ _ _) l = tt
-later_next (Inner false) (raw.Load _ _ _) l = tt
-later_next (Inner false) (raw.Store _ _ _ _) l = tt
-later_next (Inner false) (raw.Copy _ _ _ _ _ _) l = tt
-later_next (Inner false) (raw.Call _ _ _ _ _ _) l = tt
-later_next (Inner false) (raw.Bin _ _ _ _ _ _) l = tt
-later_next (Inner false) (raw.Cmp _ _ _ _ _ _) l = tt
-later_next (Inner false) (raw.Select _ _ _ _ _) l = tt
-later_next (Inner false) (raw.Cast _ _ _ _ _ _) l = tt
+later_next (Front false) i l = by_sort (λ s. IsLaterNext (next_place (Front false) s)) tt tt tt i
+later_next (Inner false) i l = by_sort (λ s. IsLaterNext (next_place (Inner false) s)) tt tt tt i
 later_next (Front true) i l = absurd l
 later_next (Inner true) i l = absurd l
 later_next Outside i l = absurd l
@@ -91,24 +85,17 @@ later_next Begun i l = absurd l
 later_next Ended i l = absurd l
 
 -- an alloca may not stand there
-no_alloca : (at : Place) (i : RawInst) (next : Place) → IsLater at → next_place at (sort_of_inst i) ≡ Some next → raw_alloca i ≡ false
-no_alloca (Front false) (raw.Alloca _ _ _) next l e = cc
-no_alloca (Inner false) (raw.Alloca _ _ _) next l e = cc
-no_alloca (Front true) (raw.Alloca _ _ _) next l e = absurd l
-no_alloca (Inner true) (raw.Alloca _ _ _) next l e = absurd l
-no_alloca Outside (raw.Alloca _ _ _) next l e = absurd l
-no_alloca Begun (raw.Alloca _ _ _) next l e = absurd l
-no_alloca Ended (raw.Alloca _ _ _) next l e = absurd l
-no_alloca at (raw.Phi _ _ _) next l e = refl
-no_alloca at (raw.Gep _ _ _ _ _) next l e = refl
-no_alloca at (raw.Load _ _ _) next l e = refl
-no_alloca at (raw.Store _ _ _ _) next l e = refl
-no_alloca at (raw.Copy _ _ _ _ _ _) next l e = refl
-no_alloca at (raw.Call _ _ _ _ _ _) next l e = refl
-no_alloca at (raw.Bin _ _ _ _ _ _) next l e = refl
-no_alloca at (raw.Cmp _ _ _ _ _ _) next l e = refl
-no_alloca at (raw.Select _ _ _ _ _) next l e = refl
-no_alloca at (raw.Cast _ _ _ _ _ _) next l e = refl
+abbrev StandsWithout : Place → Place → Sort → Type 0
+StandsWithout at next s = next_place at s ≡ Some next → is_alloca_sort s ≡ false
+
+no_alloca : (at : Place) (i : RawInst) (next : Place) → IsLater at → StandsWithout at next (sort_of_inst i)
+no_alloca (Front false) i next l = by_sort (StandsWithout (Front false) next) (λ e. cc) (λ e. refl) (λ e. refl) i
+no_alloca (Inner false) i next l = by_sort (StandsWithout (Inner false) next) (λ e. cc) (λ e. refl) (λ e. refl) i
+no_alloca (Front true) i next l = absurd l
+no_alloca (Inner true) i next l = absurd l
+no_alloca Outside i next l = absurd l
+no_alloca Begun i next l = absurd l
+no_alloca Ended i next l = absurd l
 
 term_next : (at next : Place) → next_place at Term ≡ Some next → next ≡ Ended
 term_next Outside next e = cc
@@ -219,7 +206,7 @@ all_first (body f ∷ items) each w =
 
 -- ---- from lines to functions
 
-same_alloca : (s : Scope) (i : RawInst) → is_alloca (inst_of s i) ≡ raw_alloca i
+same_alloca : (s : Scope) (i : RawInst) → is_alloca (inst_of s i) ≡ is_alloca_sort (sort_of_inst i)
 same_alloca s (raw.Alloca _ _ _) = refl
 same_alloca s (raw.Phi _ _ _) = refl
 same_alloca s (raw.Gep _ _ _ _ _) = refl
