@@ -1,21 +1,16 @@
 -- Where pointers come from: the instruction that makes a pointer, its root and offset, and which roots are fixed.
 use Rattle.std.specs.Prelude.{◌≡◌, ◌==◌, ◌⊎◌, ◌&&◌, ◌+ℤ◌, ℕ, zero, suc, ℤ, pos, Bool, true, false, if◌then◌else◌, List, [], ◌∷◌, Option, Some, None}
-use Rattle.ms_ir.specs.declared.names.Ty.{Ty}
-use Rattle.ms_ir.specs.declared.names.Ty.TheVariants.{Ptr}
 use Rattle.ms_ir.specs.declared.names.LocalNo.{LocalNo}
 use Rattle.ms_ir.specs.declared.inst.Val.{Val}
 use Rattle.ms_ir.specs.declared.inst.Val.TheVariants.{Num, Local as LocalVal, Global as GlobalVal}
 use Rattle.ms_ir.specs.declared.inst.Inst.{Inst}
 use Rattle.ms_ir.specs.declared.inst.Inst.TheVariants.{Alloca, Gep, Select, Phi}
 use Rattle.ms_ir.specs.Func.{Placed, Block, FuncState}
+pub use Rattle.ms_ir.specs.Types.{is_pointer, is_alloca}
 use Rattle.ms_flow.specs.Table.{edges_of}
 use Rattle.ms_flow.specs.Flow.{IsOnCycle}
 use Rattle.ms_alias.specs.declared.loc.Root.{Root}
 use Rattle.ms_alias.specs.declared.loc.Root.TheVariants.{Local, Global}
-
-abbrev pub is_pointer : Ty → Bool
-is_pointer Ptr = true
-is_pointer _ = false
 
 -- an alloca, a getelementptr, or a select or phi of pointers
 abbrev pub makes_pointer : Inst → Bool
@@ -24,10 +19,6 @@ makes_pointer (Gep base offset head index tail) = true
 makes_pointer (Select cond ty a b tail) = is_pointer ty
 makes_pointer (Phi ty entries tail) = is_pointer ty
 makes_pointer _ = false
-
-abbrev pub is_alloca : Inst → Bool
-is_alloca (Alloca size head tail) = true
-is_alloca _ = false
 
 abbrev pub is_local : LocalNo → Option LocalNo → Bool
 is_local l None = false

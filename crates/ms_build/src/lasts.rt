@@ -6,14 +6,14 @@ ghost use Rattle.ms_form.specs.Form.{KeepsPlaces};
 ghost use Rattle.ms_build.specs.Filled.{last_of, last_step, IsBelow};
 
 use ms_form::Form;
-use ms_ir::{BlockNo, Func, InstNo, Kind, kind_of};
+use ms_ir::{BlockNo, Func, InstNo, Kind};
 
-/// What an instruction is to memory.
+/// What an instruction of the function is to memory.
 pub fn kind_at(func: &Func, i: InstNo) -> Kind
     ensures { (b place : ℕ) (x : Placed) → IsAt func.now.blocks i.0 b place x → result ≡ kind_of_inst x.inst }
 {
-    match func.inst(i) {
-        Some(inst) => kind_of(inst),
+    match func.kind(i) {
+        Some(kind) => kind,
         None => Kind::Neither,
     }
 }
@@ -31,8 +31,8 @@ fn last_at(func: &Func, i: InstNo, last: Option<InstNo>) -> Option<InstNo>
     }
 }
 
-// The last Def of a block.
-fn last_def(func: &Func, b: BlockNo) -> Option<InstNo>
+/// The last Def of a block.
+pub fn last_def(func: &Func, b: BlockNo) -> Option<InstNo>
     requires { b.0 < length func.now.blocks }
     ensures last { result ≡ last_of func.now.blocks b.0 }
     ensures below { IsBelow func.now.made result }
@@ -48,8 +48,8 @@ fn last_def(func: &Func, b: BlockNo) -> Option<InstNo>
     last
 }
 
-// Gives a block its last Def, for which there is a place.
-fn end_block(form: &mut Form, b: BlockNo, last: Option<InstNo>)
+/// Gives a block its last Def, for which there is a place.
+pub fn end_block(form: &mut Form, b: BlockNo, last: Option<InstNo>)
     requires block { b.0 < length form.old.phis }
     requires last { IsBelow (length form.old.defs) last }
     ensures ended { form.new ≡ record form.old { lasts = slice_set form.old.lasts b.0 last } }

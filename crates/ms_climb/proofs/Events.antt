@@ -16,7 +16,7 @@ use Rattle.ms_form.specs.Form.{after_last}
 use Rattle.ms_build.specs.Accesses.{event_of}
 use Rattle.ms_build.specs.Filled.{last_step, last_from}
 use Rattle.ms_climb.specs.Chains.{or_entry}
-use Rattle.ms_climb.proofs.Insts.{nowhere_at}
+use Rattle.ms_ir.proofs.FuncLemmas.{not_nowhere}
 
 abbrev pub OnePlaced : List Block → Type 0
 OnePlaced blocks = (b j c k : ℕ) (x y : Placed) → slice_get (insts_at blocks b) j ≡ Some x → slice_get (insts_at blocks c) k ≡ Some y → x.number ≡ y.number → (b ≡ c) × (j ≡ k)
@@ -144,7 +144,7 @@ pub def_here : (blocks : List Block) (i b k : ℕ) (x : Placed) (inst : Inst) (k
 def_here blocks i b k x inst kind one at same is = ap (defs_of blocks) (sym at.numbered) ∙ def_told blocks b k x one at.found ∙ ap (λ (y : Inst). is_def (kind_of_inst y)) same ∙ ap is_def (sym is)
 
 pub def_nowhere : (blocks : List Block) (i : ℕ) → IsNowhere blocks i → defs_of blocks i ≡ false
-def_nowhere blocks i none = defs_none blocks i (λ b j y e same. absurd (nowhere_at blocks i b j y none e same))
+def_nowhere blocks i none = defs_none blocks i (λ b j y e same. absurd (not_nowhere (insts_at blocks b) i j y (none b) e same))
 
 -- the last event once instructions have run is their last Def
 pub event_after : (E : ℕ → Bool) (xs : List Placed) (last : Option InstNo) (start : Option Access) → ((k : ℕ) (x : Placed) → slice_get xs k ≡ Some x → E x.number ≡ is_def (kind_of_inst x.inst))

@@ -2,7 +2,6 @@ pub mod Options
 pub mod ChainLemmas
 pub mod WalkLemmas
 pub mod SkipLemmas
-pub mod Insts
 pub mod Events
 pub mod Answered
 pub mod Resolved

@@ -2,24 +2,14 @@
 ghost use Rattle.std.specs.Prelude.{◌≡◌, ◌<◌, ◌≤◌, ℕ, length, take, None};
 ghost use Rattle.ms_ir.specs.Func.{Placed, IsAt, insts_at};
 ghost use Rattle.ms_ir.specs.Graph.{is_def};
-ghost use Rattle.ms_ir.specs.Inst.{kind_of_inst};
 ghost use Rattle.ms_build.specs.Accesses.{entering_at};
 ghost use Rattle.ms_build.specs.Filled.{before_at, last_from, last_step};
 ghost use Rattle.ms_climb.specs.Answer.{IsStartAt};
 ghost use Rattle.ms_climb.specs.Chains.{or_entry};
 
+use ms_build::kind_at;
 use ms_form::{Access, Form};
-use ms_ir::{BlockNo, Func, InstNo, Kind, kind_of};
-
-// What an instruction is to memory.
-fn kind_at(func: &Func, i: InstNo) -> Kind
-    ensures { (b place : ℕ) (x : Placed) → IsAt func.now.blocks i.0 b place x → result ≡ kind_of_inst x.inst }
-{
-    match func.inst(i) {
-        Some(inst) => kind_of(inst),
-        None => Kind::Neither,
-    }
-}
+use ms_ir::{BlockNo, Func, InstNo, Kind};
 
 // The last Def after an instruction.
 fn last_after(func: &Func, i: InstNo, last: Option<InstNo>) -> Option<InstNo>

@@ -4,17 +4,9 @@ use Rattle.std.specs.Str.Parse.{digits_value}
 use Rattle.ms_lex.specs.Kinds.{is_number}
 use Rattle.ms_ir.specs.declared.names.Ty.{Ty}
 use Rattle.ms_ir.specs.declared.names.Ty.TheVariants.{I1, I8, I16, I32, I64, Ptr}
+pub use Rattle.ms_ir.specs.Types.{bits}
 use Rattle.ms_grammar.specs.Words.{spelling}
 use Rattle.ms_grammar.specs.declared.keyword.Keyword.TheVariants.{True, False}
-
--- the bits of a number of a type
-abbrev pub bits : Ty → ℕ
-bits I1 = 1
-bits I8 = 8
-bits I16 = 16
-bits I32 = 32
-bits I64 = 64
-bits Ptr = 0
 
 -- the bytes that a number of a type takes in memory
 abbrev pub bytes_of : Ty → ℕ

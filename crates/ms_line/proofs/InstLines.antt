@@ -17,7 +17,7 @@ use Rattle.ms_grammar.specs.declared.keyword.Keyword.TheVariants as word
 use Rattle.ms_grammar.proofs.Both.{skip_blank, starts_with, name_one, behind_first}
 use Rattle.ms_grammar.proofs.Leads.{inst_lead, lead_is, lead_of, a_bin, a_gep, a_call, rest_of}
 use Rattle.ms_grammar.proofs.Instructions.{inst_one}
-use Rattle.ms_insts.specs.Found.{SpellInst, SpellTerm, is_alloca}
+use Rattle.ms_line_insts.specs.Found.{SpellInst, SpellTerm, is_alloca}
 use Rattle.ms_line.specs.Sorts.{sort_of_inst}
 use Rattle.ms_line.specs.Shapes.{shape_of}
 use Rattle.ms_line.specs.Spelled.{SpellLine, TellsLine, Finds, FindsMade, FindsNamed, named_inst_parts}

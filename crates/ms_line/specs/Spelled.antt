@@ -12,7 +12,7 @@ use Rattle.ms_grammar.specs.declared.line.Line.{Line}
 use Rattle.ms_grammar.specs.declared.line.Line.TheVariants.{Inst}
 use Rattle.ms_grammar.specs.declared.line.RawInst.{RawInst}
 use Rattle.ms_grammar.specs.declared.keyword.Keyword.TheVariants as word
-use Rattle.ms_insts.specs.Found.{SpellInst}
+use Rattle.ms_line_insts.specs.Found.{SpellInst}
 use Rattle.ms_line.specs.Sorts.{sort_of}
 use Rattle.ms_line.specs.Shapes.{shape_of}
 use Rattle.ms_line.specs.declared.shape.Shape.{Shape}

@@ -8,7 +8,7 @@ ghost use Rattle.ms_grammar.specs.Parts.{bytes_at, texts};
 use ms_grammar::Keyword;
 use ms_ir::{NoMemory, Text};
 use ms_lex::Token;
-use ms_parts::{bytes_of, is_keyword};
+use ms_line_parts::{bytes_of, is_keyword};
 use std::alloc::Global;
 
 // The first token, and those behind it.

@@ -14,7 +14,7 @@ use crate::shape::Shape;
 use ms_grammar::{Head, Keyword, Line};
 use ms_ir::{NoMemory, Text, Ty};
 use ms_lex::Token;
-use ms_parts::{attributes_front, is_keyword, kept, post_front, type_at};
+use ms_line_parts::{attributes_front, is_keyword, kept, post_front, type_at};
 use std::alloc::Global;
 
 // What a function gives, and its name.

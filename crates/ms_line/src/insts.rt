@@ -4,8 +4,8 @@ ghost use Rattle.ms_lex.specs.Line.{IsTokenOf};
 ghost use Rattle.ms_ir.specs.declared.names.Name.TheVariants.{Absent};
 ghost use Rattle.ms_grammar.specs.Fits.{IsMade, MayBeNamed, IsNamed};
 ghost use Rattle.ms_grammar.specs.declared.line.RawInst.{RawInst};
-ghost use Rattle.ms_insts.specs.Found.{SpellInst, Tells};
-ghost use Rattle.ms_insts.specs.declared.found.FoundInst.TheVariants.{Past as FoundPast};
+ghost use Rattle.ms_line_insts.specs.Found.{SpellInst, Tells};
+ghost use Rattle.ms_line_insts.specs.declared.found.FoundInst.TheVariants.{Past as FoundPast};
 ghost use Rattle.ms_line.specs.declared.found.Said.TheVariants.{Whole, Past};
 ghost use Rattle.ms_grammar.specs.declared.line.Line.TheVariants.{Inst};
 ghost use Rattle.ms_line.specs.Sorts.{sort_of_inst};
@@ -16,10 +16,10 @@ use crate::found::Said;
 use crate::shape::Shape;
 use crate::sort::Sort;
 use ms_grammar::{Keyword, Line, RawInst};
-use ms_insts::{FoundInst, read_inst, read_term};
 use ms_ir::{Name, NoMemory};
 use ms_lex::Token;
-use ms_parts::local_at;
+use ms_line_insts::{FoundInst, read_inst, read_term};
+use ms_line_parts::local_at;
 use std::alloc::Global;
 
 fn is_absent(name: &Name) -> bool

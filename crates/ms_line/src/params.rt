@@ -7,7 +7,7 @@ use crate::cut::{before, behind, cut, starts_with};
 use ms_grammar::Keyword;
 use ms_ir::{Name, NoMemory, Param, Params};
 use ms_lex::Token;
-use ms_parts::{attributes_front, kept, local_at, type_at};
+use ms_line_parts::{attributes_front, kept, local_at, type_at};
 use std::alloc::Global;
 
 // A parameter, and how many tokens spell it.

@@ -11,7 +11,7 @@ ghost use Rattle.ms_line.specs.Spelled.{AreReadable};
 
 use crate::cut::cut_bytes;
 use ms_lex::{Token, TokenKind};
-use ms_parts::bytes_of;
+use ms_line_parts::bytes_of;
 
 // The least and the greatest number of a line, without their signs.
 const MOST_BELOW_ZERO: u128 = 1 << 127;

@@ -8,7 +8,7 @@ ghost use Rattle.ms_line.specs.Shapes.{kind_for};
 use crate::cut::cut;
 use ms_grammar::Keyword;
 use ms_lex::{Token, TokenKind};
-use ms_parts::is_keyword;
+use ms_line_parts::is_keyword;
 
 // The forms of lines.
 #[derive(Clone, Copy)]

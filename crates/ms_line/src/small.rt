@@ -11,7 +11,7 @@ use crate::shape::Shape;
 use ms_grammar::{Keyword, Line};
 use ms_ir::{NoMemory, Text};
 use ms_lex::Token;
-use ms_parts::{bytes_of, global_line, group_line, is_kept_line, kept, name_of};
+use ms_line_parts::{bytes_of, global_line, group_line, is_kept_line, kept, name_of};
 use std::alloc::Global;
 
 pub fn empty(line: &[u8], tokens: &[Token]) -> Option<Said>

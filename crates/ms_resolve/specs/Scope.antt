@@ -19,6 +19,7 @@ use Rattle.ms_ir.specs.declared.inst.Term.{Term}
 use Rattle.ms_ir.specs.declared.inst.Term.TheVariants as term
 use Rattle.ms_ir.specs.declared.module.Sig.{Sig}
 use Rattle.ms_ir.specs.Func.{Placed, Block, FuncState}
+pub use Rattle.ms_ir.specs.Types.{is_pointer}
 use Rattle.ms_attrs.specs.Effects.{both, IsEffectsOf}
 use Rattle.ms_attrs.specs.Memory.{everything}
 use Rattle.ms_attrs.specs.Captures.{IsKeepsOf}
@@ -72,10 +73,6 @@ value_of s (raw.Global n) = val.Global (record { 0 = number_of_word s.globals (n
 
 abbrev pub block_of : Scope → Name → BlockNo
 block_of s n = record { 0 = number_of_name s.blocks n }
-
-abbrev pub is_pointer : Ty → Bool
-is_pointer Ptr = true
-is_pointer _ = false
 
 -- an argument, where the callee's line leaves it open or not that a pointer there is kept
 abbrev pub arg_of : Scope → Bool → RawArg → Arg

@@ -104,7 +104,3 @@ shown_phi labels all g form b = if reached_in g b then (if has_phi form b then p
 abbrev pub with_line : List Note → ℕ → Option (List ℕ) → List Note
 with_line notes at None = notes
 with_line notes at (Some line) = notes ++ (record { at = at; line = line }) ∷ []
-
--- the number at a place of a block is this instruction's
-abbrev pub IsCursor : List Block → ℕ → ℕ → Option InstNo → Type 0
-IsCursor blocks b k at = option_map (λ i. i.0) at ≡ option_map (λ x. x.number) (slice_get (insts_at blocks b) k)

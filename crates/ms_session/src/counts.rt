@@ -7,19 +7,16 @@ ghost use Rattle.ms_session.specs.Shown.{reached_in};
 
 use crate::numbers::is_reached;
 use ms_flow::Flow;
-use ms_ir::{BlockNo, Func, InstNo, Kind, kind_of};
+use ms_ir::{BlockNo, Func, InstNo, Kind};
 
 // One for a use, none for another instruction.
 fn one_if_use(func: &Func, i: InstNo) -> u32
     ensures at { (b place : ℕ) (x : Placed) → IsAt func.now.blocks i.0 b place x → result ≡ (if is_use (kind_of_inst x.inst) then 1 else 0) }
     ensures few { result ≤ 1 }
 {
-    match func.inst(i) {
-        Some(inst) => match kind_of(inst) {
-            Kind::Reads => 1,
-            Kind::Def | Kind::Neither => 0,
-        },
-        None => 0,
+    match func.kind(i) {
+        Some(Kind::Reads) => 1,
+        Some(Kind::Def) | Some(Kind::Neither) | None => 0,
     }
 }
 

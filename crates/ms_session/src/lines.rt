@@ -21,7 +21,7 @@ use itoa::Buffer;
 use ms_alias::Alias;
 use ms_flow::Flow;
 use ms_form::{Access, Form};
-use ms_ir::{BlockNo, Func, InstNo, Kind, Name, NoMemory, Steps, Text, kind_of};
+use ms_ir::{BlockNo, Func, InstNo, Kind, Name, NoMemory, Steps, Text};
 use std::alloc::Global;
 
 fn push_number(out: &mut Vec<u8>, n: usize) -> Result<(), NoMemory>
@@ -42,18 +42,6 @@ fn push_access(out: &mut Vec<u8>, numbers: &Numbers, access: Access) -> Result<(
         }
         Access::Of(i) => push_number(out, numbers.of_def(i)),
         Access::Phi(b) => push_number(out, numbers.of_phi(b)),
-    }
-}
-
-// What an instruction is to memory, if it is there.
-fn kind_at(func: &Func, i: InstNo) -> Option<Kind>
-    ensures found { MatchOption result (IsNowhere func.now.blocks i.0)
-        (λ kind. (b : ℕ) × (place : ℕ) × (x : Placed) × IsAt func.now.blocks i.0 b place x) }
-    ensures each { IfSome result (λ kind. (b place : ℕ) (x : Placed) → IsAt func.now.blocks i.0 b place x → kind_of_inst x.inst ≡ kind) }
-{
-    match func.inst(i) {
-        Some(inst) => Some(kind_of(inst)),
-        None => None,
     }
 }
 
@@ -104,7 +92,7 @@ pub fn inst_line(
         Some(last) => last,
         None => return Ok(None),
     };
-    match kind_at(func, i) {
+    match func.kind(i) {
         Some(Kind::Def) => Ok(Some(def_line(alloc, numbers, i, last)?)),
         Some(Kind::Reads) => {
             let clobber = named_by_use(alloc, func, flow, form, alias, i)?;

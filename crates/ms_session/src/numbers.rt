@@ -8,7 +8,7 @@ ghost use Rattle.ms_session.specs.Shown.{HasPlace, with_one, with_more, phi_even
 
 use ms_flow::Flow;
 use ms_form::{Access, Form};
-use ms_ir::{BlockNo, Func, InstNo, Kind, NoMemory, kind_of};
+use ms_ir::{BlockNo, Func, InstNo, Kind, NoMemory};
 use std::alloc::Global;
 use std::marker::Model;
 
@@ -123,12 +123,9 @@ fn number_inst(numbers: &mut Numbers, func: &Func, i: InstNo) -> Result<(), NoMe
     requires { i.0 < numbers.old.insts }
     ensures { OnOk result ((b place : ℕ) (x : Placed) → IsAt func.now.blocks i.0 b place x → numbers.new ≡ with_more numbers.old (def_events (x ∷ []))) }
 {
-    match func.inst(i) {
-        Some(inst) => match kind_of(inst) {
-            Kind::Def => numbers.push(Access::Of(i))?,
-            Kind::Reads | Kind::Neither => {}
-        },
-        None => {}
+    match func.kind(i) {
+        Some(Kind::Def) => numbers.push(Access::Of(i))?,
+        Some(Kind::Reads) | Some(Kind::Neither) | None => {}
     }
     Ok(())
 }

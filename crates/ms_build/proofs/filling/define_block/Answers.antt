@@ -2,13 +2,13 @@ use Rattle.std.proofs.Common.{◌≡◌, ◌<◌, ◌∙◌, ap, refl, sym, subs
 use Rattle.ms_ir.specs.Func.{insts_at}
 use Rattle.ms_build.specs.Filled.{before_at}
 use Rattle.ms_build.specs.Accesses.{entering_at}
-use Rattle.ms_build.proofs.Insts.{IsCursor, IsHere, here, not_past}
+use Rattle.ms_ir.proofs.Along.{IsCursor, IsHere, here, not_past}
 use Rattle.ms_build.proofs.Define.{UpTo, defined_none, defined_one, defined_next, defined_block, defined_entering, before_next}
 use Rattle.ms_build.proofs.filling.define_block.Goals as goal
 use Rattle.ms_build.proofs.filling.define_block.Goals.{in-Some, in_default}
 
 pub loop-place-init : goal.loop-place-init
-loop-place-init c = (defined_none c.args.func.now.blocks c.args.form.now (UpTo c.args.b.0 0) (λ x k v. absurd (let lt = v.1 in omega arith)), refl, c.requires.access, c.first_inst-at.ensures)
+loop-place-init c = (defined_none c.args.func.now.blocks c.args.form.now (UpTo c.args.b.0 0) (λ x k v. absurd (let lt = v.1 in omega arith)), refl, c.requires.access, c.first_inst-at.ensures, refl, refl)
 
 pub define_inst-access-requires-clause-inst : goal.define_inst-access-requires-clause-inst
 define_inst-access-requires-clause-inst c =
@@ -41,14 +41,16 @@ loop-place-preserved c =
             rw w.access-is (ap Some (w.define_inst-access.ensures.after b k h.x h.at) ∙ before_next blocks b k h.x c.loop-place.access c.args.start h.at.found c.loop-place.invariant.1),
             rw (w.form-is, w.access-is) (w.define_inst-access.ensures.access b k h.x h.at),
             rw w.at-is (w.next_inst-at.ensures.there b k h.x h.at),
+            rw w.form-is (w.define_inst-access.ensures.waiting ∙ c.loop-place.invariant.4),
+            rw w.form-is ((w.define_inst-access.ensures.changed b k h.x h.at).spare ∙ c.loop-place.invariant.5),
           )
       | in_default w ↦
           let lt : k < length (insts_at blocks b) = (let t = c.loop-place-test.true in let n = c.count-place-end.ensures in omega arith) in
           absurd (not_past blocks b k lt (subst (IsCursor blocks b k) w.in_default.is c.loop-place.invariant.3))
     ]
 
-pub returns : goal.returns
-returns c =
+pub returns-clause-defined : goal.returns-clause-defined
+returns-clause-defined c =
     let end = c.loop-place-test.false in
     let count = c.count-place-end.ensures in
     defined_block c.args.func.now.blocks c.args.form.now c.loop-place.form c.args.b.0 c.loop-place.place (omega arith) c.loop-place.invariant.0

@@ -1,5 +1,5 @@
-use Rattle.ms_build.proofs.Insts.{nowhere_here}
+use Rattle.ms_ir.proofs.FuncLemmas.{at_and_nowhere}
 use Rattle.ms_build.proofs.lasts.kind_at.Goals as goal
 
 pub returns-in-None : goal.returns-in-None
-returns-in-None c = λ b place x at. absurd (nowhere_here c.args.func.now.blocks c.args.i.0 b place x c.in-None.ensures.found at)
+returns-in-None c = λ b place x at. absurd (at_and_nowhere c.args.func.now.blocks c.args.i.0 b place x c.in-None.ensures.found at)

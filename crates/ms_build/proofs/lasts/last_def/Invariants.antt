@@ -2,7 +2,7 @@ use Rattle.std.proofs.Common.{◌≡◌, take}
 use Rattle.std.specs.Prelude.{None}
 use Rattle.ms_ir.specs.Func.{insts_at}
 use Rattle.ms_build.specs.Filled.{last_from, IsBelow}
-use Rattle.ms_build.proofs.Insts.{IsCursor}
+use Rattle.ms_ir.proofs.Along.{IsCursor}
 use Rattle.ms_build.proofs.lasts.last_def.Given as goal
 
 -- the last Def among the first instructions

@@ -1,7 +1,8 @@
 use Rattle.std.proofs.Common.{◌<◌, ◌∙◌, ap, sym, subst, arith, length, Some, None}
 use Rattle.ms_ir.specs.Func.{insts_at}
 use Rattle.ms_build.specs.Filled.{last_step}
-use Rattle.ms_climb.proofs.Insts.{IsCursor, IsHere, here, not_past, last_next}
+use Rattle.ms_ir.proofs.Along.{IsCursor, IsHere, here, not_past}
+use Rattle.ms_build.proofs.Insts.{last_next}
 use Rattle.ms_climb.proofs.start.last_among.Goals as goal
 use Rattle.ms_climb.proofs.start.last_among.Goals.{in-Some, in_default}
 

@@ -2,7 +2,7 @@ use Rattle.std.proofs.Common.{◌≡◌, take}
 use Rattle.std.specs.Prelude.{None}
 use Rattle.ms_ir.specs.Func.{insts_at}
 use Rattle.ms_build.specs.Filled.{last_from}
-use Rattle.ms_climb.proofs.Insts.{IsCursor}
+use Rattle.ms_ir.proofs.Along.{IsCursor}
 use Rattle.ms_climb.proofs.start.last_among.Given as goal
 
 -- the last Def among the first instructions

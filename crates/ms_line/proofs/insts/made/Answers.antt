@@ -1,6 +1,6 @@
 use Rattle.std.proofs.Common.{sym, subst}
 use Rattle.ms_grammar.specs.Limits.{IsSmallInst}
-use Rattle.ms_insts.specs.Found.{SpellInst}
+use Rattle.ms_line_insts.specs.Found.{SpellInst}
 use Rattle.ms_line.proofs.InstLines.{whole_told, past_told}
 use Rattle.ms_line.proofs.insts.made.Goals as goal
 

@@ -1,8 +1,7 @@
 use Rattle.std.proofs.Common.{◌+◌, List, drop, subst, refl, arith}
 use Rattle.ms_ir.specs.Func.{Placed, insts_at}
 use Rattle.ms_session.specs.Annotated.{uses_in}
-use Rattle.ms_session.specs.Shown.{IsCursor}
-use Rattle.ms_session.proofs.Walks.{IsHere, here, there}
+use Rattle.ms_ir.proofs.Along.{IsCursor, IsHere, here, there}
 use Rattle.ms_session.proofs.CountLemmas.{insts_more}
 use Rattle.ms_session.proofs.counts.block_uses.Goals as goal
 

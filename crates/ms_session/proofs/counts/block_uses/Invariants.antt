@@ -1,7 +1,7 @@
 use Rattle.std.proofs.Common.{◌≡◌, ◌≤◌, ◌+◌, drop}
 use Rattle.ms_ir.specs.Func.{insts_at}
 use Rattle.ms_session.specs.Annotated.{uses_in}
-use Rattle.ms_session.specs.Shown.{IsCursor}
+use Rattle.ms_ir.proofs.Along.{IsCursor}
 use Rattle.ms_session.proofs.counts.block_uses.Given as goal
 
 -- the uses so far, and those of the rest

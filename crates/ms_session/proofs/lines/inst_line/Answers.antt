@@ -1,7 +1,7 @@
 use Rattle.std.proofs.Common.{◌∙◌, sym}
 use Rattle.ms_flow.specs.Table.{edges_of}
 use Rattle.ms_build.specs.Accesses.{event_of, defining_at}
-use Rattle.ms_session.proofs.Walks.{nowhere_here}
+use Rattle.ms_ir.proofs.FuncLemmas.{at_and_nowhere}
 use Rattle.ms_session.proofs.UseLemmas.{access_reached, shown_def, shown_use, shown_neither}
 use Rattle.ms_session.proofs.lines.inst_line.Goals as goal
 
@@ -35,5 +35,5 @@ returns-in-Some-Neither c = λ b k x at.
     shown_neither c.args.func.now c.args.numbers.now.all c.args.i.0 c.in-Some.last (defining_at c.args.form.now c.args.i.0) c.in-Some-Neither.field-0
     (sym c.defining.ensures ∙ c.in-Some.is) c.in-Some-Neither.field-0-is b k x at (c.in-Some-Neither.ensures.each b k x at)
 
-pub returns-in-None-kind_at : goal.returns-in-None-kind_at
-returns-in-None-kind_at c = λ b k x at. absurd (nowhere_here c.args.func.now.blocks c.args.i.0 b k x c.in-None-kind_at.ensures.found at)
+pub returns-in-None-kind : goal.returns-in-None-kind
+returns-in-None-kind c = λ b k x at. absurd (at_and_nowhere c.args.func.now.blocks c.args.i.0 b k x c.in-None-kind.ensures.found at)

@@ -3,7 +3,7 @@ use Rattle.std.proofs.lemmas.List.{drop_all}
 use Rattle.ms_flow.specs.declared.sources.Source.{Source}
 use Rattle.ms_flow.specs.Flow.{sources_of}
 use Rattle.ms_session.specs.Shown.{operand_text}
-use Rattle.ms_session.proofs.Walks.{there}
+use Rattle.ms_ir.proofs.Along.{there}
 use Rattle.ms_session.proofs.LineLemmas.{operands_more, operands_end}
 use Rattle.ms_session.proofs.lines.push_operands.Goals as goal
 

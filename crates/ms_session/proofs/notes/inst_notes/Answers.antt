@@ -5,7 +5,7 @@ use Rattle.ms_ir.specs.Inst.{kind_of_inst}
 use Rattle.ms_build.specs.Accesses.{defining_at}
 use Rattle.ms_print.specs.Text.{note_at}
 use Rattle.ms_session.specs.Shown.{IsShownLine, line_text}
-use Rattle.ms_session.proofs.Walks.{block_within}
+use Rattle.ms_ir.proofs.Along.{block_within}
 use Rattle.ms_session.proofs.LineLemmas.{line_here, line_other}
 use Rattle.ms_session.proofs.notes.inst_notes.Goals as goal
 

@@ -1,8 +1,8 @@
 use Rattle.std.proofs.Common.{◌+◌, ◌++◌, ◌∙◌, List, drop, ap, sym, subst}
 use Rattle.ms_ir.specs.Func.{Placed, insts_at}
 use Rattle.ms_session.specs.Annotated.{def_events}
-use Rattle.ms_session.specs.Shown.{NumbersState, IsCursor}
-use Rattle.ms_session.proofs.Walks.{IsHere, here, there}
+use Rattle.ms_session.specs.Shown.{NumbersState}
+use Rattle.ms_ir.proofs.Along.{IsCursor, IsHere, here, there}
 use Rattle.ms_session.proofs.NumberLemmas.{defs_more}
 use Rattle.ms_session.proofs.numbers.number_defs.Goals as goal
 

@@ -1,7 +1,7 @@
 use Rattle.std.proofs.Common.{◌≡◌, ◌++◌, drop}
 use Rattle.ms_ir.specs.Func.{insts_at}
 use Rattle.ms_session.specs.Annotated.{def_events}
-use Rattle.ms_session.specs.Shown.{IsCursor}
+use Rattle.ms_ir.proofs.Along.{IsCursor}
 use Rattle.ms_session.proofs.numbers.number_defs.Given as goal
 
 -- the numbers so far, and those of the rest behind them

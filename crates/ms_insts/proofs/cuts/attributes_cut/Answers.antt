@@ -1,7 +1,0 @@
-use Rattle.ms_insts.specs.Cuts.{HasAttributes, StopsAttributes}
-use Rattle.ms_insts.proofs.CutLemmas.{cut_of}
-use Rattle.ms_insts.proofs.cuts.attributes_cut.Goals as goal
-
-pub returns : goal.returns
-returns c =
-    cut_of (HasAttributes c.args.line.now) (StopsAttributes c.args.line.now) c.args.line.now c.args.tokens.now c.cut.result.0.now c.cut.result.1.now c.in_ok-count.count c.cut.ensures.whole c.cut.ensures.many c.cut.ensures.front c.cut.ensures.owned c.cut.ensures.behind c.in_ok-count.ensures.are (λ run rest e p q. c.in_ok-count.ensures.whole run rest e p q)

@@ -1,0 +1,11 @@
+use Rattle.std.proofs.Common.{[], ◌∷◌}
+use Rattle.ms_grammar.specs.Parts.{blank}
+use Rattle.ms_grammar.specs.Form.{word_part}
+use Rattle.ms_grammar.specs.declared.keyword.Keyword.TheVariants as word
+use Rattle.ms_line_insts.specs.Front.{IsTyped, typed}
+use Rattle.ms_line_insts.proofs.Fronts.{read_after}
+use Rattle.ms_line_insts.proofs.groups.further_typed.Goals as goal
+
+pub returns : goal.returns
+returns c =
+    read_after IsTyped typed (word_part word.Comma ∷ blank ∷ []) c.args.line.now c.args.tokens.now c.in-Some.behind.now c.typed_front.result c.in-Some.ensures c.typed_front.ensures

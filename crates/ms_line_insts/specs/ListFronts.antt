@@ -1,0 +1,29 @@
+-- Lists in front of tokens.
+use Rattle.std.specs.Prelude.{◌≡◌, ◌≢◌, ◌<◌, ℕ, length, map, List, [], ◌∷◌, ◌++◌, All}
+use Rattle.ms_lex.specs.Line.{IsTokenOf}
+use Rattle.ms_lex.specs.declared.token.Token.{Token}
+use Rattle.ms_grammar.specs.declared.keyword.Keyword.TheVariants as word
+use Rattle.ms_grammar.specs.Parts.{Part, blank, kept, tail}
+use Rattle.ms_grammar.specs.Form.{word_part, listed}
+use Rattle.ms_grammar.specs.Kept.{Each}
+use Rattle.ms_line_insts.specs.Front.{Spelt, Behind}
+
+-- no member of a list, or all of them, where a list ends before certain parts
+abbrev pub NoList : {X : Type 0} → (List Part → Type 0) → (X → Type 0) → (X → List Part) → List ℕ → List Token → Type 0
+NoList {X} Ends Fits parts line tokens = (ys : List X) (ps : List Part) → ys ≢ [] → Ends ps → Each Fits ys → Spelt line tokens (listed (map parts ys) ++ ps) → ⊥
+
+pub record ListFront {X : Type 0} (Ends : List Part → Type 0) (Fits : X → Type 0) (parts : X → List Part) (line : List ℕ) (tokens : List Token) (xs : List X) (rest : List Token) : Type 0 where
+  pub some : xs ≢ []
+  pub fits : Each Fits xs
+  pub owned : All (IsTokenOf line) rest
+  pub shorter : length rest < length tokens
+  pub on : (ps : List Part) → Spelt line rest ps → Spelt line tokens (listed (map parts xs) ++ ps)
+  pub back : (ys : List X) (ps : List Part) → ys ≢ [] → Ends ps → Each Fits ys → Spelt line tokens (listed (map parts ys) ++ ps) → Behind ys xs line rest ps
+
+-- a kept tail up to the line's end
+abbrev pub IsTail : List Part → Type 0
+IsTail ps = (text : List ℕ) × (ps ≡ kept tail text ∷ [])
+
+-- a member behind a comma
+abbrev pub behind_comma : {X : Type 0} → (X → List Part) → X → List Part
+behind_comma parts x = word_part word.Comma ∷ blank ∷ parts x

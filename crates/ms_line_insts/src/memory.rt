@@ -1,0 +1,116 @@
+// Allocas and getelementptrs, each read from its first word on.
+ghost use Rattle.std.specs.Prelude.{◌≡◌, ◌≤◌, ℕ, ℤ, ◌∷◌, [], List, true, false, length, All, IfOk, MatchOption};
+ghost use Rattle.ms_lex.specs.Line.{IsTokenOf};
+ghost use Rattle.ms_grammar.specs.Kept.{IsObject, IsIndexList};
+ghost use Rattle.ms_grammar.specs.Parts.{joined, kept_text, texts};
+ghost use Rattle.ms_grammar.specs.declared.line.RawVal.{RawVal};
+ghost use Rattle.ms_grammar.specs.declared.line.RawInst.{RawInst};
+ghost use Rattle.ms_line_insts.specs.Found.{IsFound, SpellInst};
+
+use crate::cuts::{attributes_cut, indices_cut, object_cut};
+use crate::found::FoundInst;
+use crate::groups::{behind_lead, end_tail, further_given};
+use crate::joins::join_kept;
+use ms_grammar::{Keyword, RawInst};
+use ms_ir::{NoMemory, Text, Ty};
+use ms_lex::Token;
+use std::alloc::Global;
+
+// `alloca TYPE`. It is past its limit where the type has more than 65,536 bytes.
+pub fn alloca(alloc: Global, line: &[u8], tokens: &[Token]) -> Result<Option<FoundInst>, NoMemory>
+    requires { All (IsTokenOf line.now) tokens.now }
+    ensures { IfOk result (λ found. MatchOption found
+        ((size : ℕ) (head rest : List ℕ) → SpellInst line.now tokens.now (RawInst.Alloca size head rest) → ⊥)
+        (IsFound line.now tokens.now)) }
+{
+    let Some(at_type) = behind_lead(line, tokens, Keyword::Alloca) else {
+        return Ok(None);
+    };
+    let Some((object, at_tail)) = object_cut(line, at_type) else {
+        return Ok(None);
+    };
+    let Some(tail) = end_tail(alloc, line, at_tail)? else {
+        return Ok(None);
+    };
+    let Some(size) = ms_line_parts::object_size(line, object) else {
+        return Ok(Some(FoundInst::Past(true)));
+    };
+    let head = ms_line_parts::kept(alloc, line, object)?;
+    Ok(Some(FoundInst::Whole(RawInst::Alloca { size, head, tail })))
+}
+
+// Whether a list of indices has no more of them than the type has levels.
+fn fit(line: &[u8], object: &[Token], indices: &[Token]) -> bool
+    requires object { All (IsTokenOf line.now) object.now }
+    requires indices { All (IsTokenOf line.now) indices.now }
+    ensures yes { (sizes : List ℕ) (values : List ℤ) → IsObject sizes (texts line.now object.now) → IsIndexList values (texts line.now indices.now)
+        → result ≡ true → length values ≤ length sizes }
+    ensures no { (sizes : List ℕ) (values : List ℤ) → IsObject sizes (texts line.now object.now) → IsIndexList values (texts line.now indices.now)
+        → result ≡ false → length values ≤ length sizes → ⊥ }
+{
+    ms_line_parts::indices_fit(line, object, indices)
+}
+
+// The kept text of a getelementptr's attributes and type.
+fn head_text(
+    alloc: Global,
+    line: &[u8],
+    before: &[Token],
+    object: &[Token],
+) -> Result<Text, NoMemory>
+    requires before { All (IsTokenOf line.now) before.now }
+    requires object { All (IsTokenOf line.now) object.now }
+    ensures { IfOk result (λ text. text ≡ joined (kept_text line.now before.now ∷ kept_text line.now object.now ∷ [])) }
+{
+    let mut text = ms_line_parts::kept(alloc, line, before)?.into_vec();
+    join_kept(alloc, line, &mut text, object)?;
+    Ok(Text::from_vec(text))
+}
+
+// `getelementptr ATTRIBUTES TYPE, ptr BASE, INDICES`. It is past its limit where the indices come to more than
+// 2^31 bytes either way.
+pub fn element_pointer(
+    alloc: Global,
+    line: &[u8],
+    tokens: &[Token],
+) -> Result<Option<FoundInst>, NoMemory>
+    requires { All (IsTokenOf line.now) tokens.now }
+    ensures { IfOk result (λ found. MatchOption found
+        ((base : RawVal) (offset : ℤ) (head index rest : List ℕ) → SpellInst line.now tokens.now (RawInst.Gep base offset head index rest) → ⊥)
+        (IsFound line.now tokens.now)) }
+{
+    let Some(at_head) = behind_lead(line, tokens, Keyword::Getelementptr) else {
+        return Ok(None);
+    };
+    let (before, at_object) = attributes_cut(alloc, line, at_head)?;
+    let Some((object, at_base)) = object_cut(line, at_object) else {
+        return Ok(None);
+    };
+    let Some((base, at_comma)) = further_given(alloc, line, at_base, Ty::Ptr)? else {
+        return Ok(None);
+    };
+    let Some(at_index) = behind_lead(line, at_comma, Keyword::Comma) else {
+        return Ok(None);
+    };
+    let Some((indices, at_tail)) = indices_cut(line, at_index) else {
+        return Ok(None);
+    };
+    if !fit(line, object, indices) {
+        return Ok(None);
+    }
+    let Some(tail) = end_tail(alloc, line, at_tail)? else {
+        return Ok(None);
+    };
+    let Some(offset) = ms_line_parts::offset(line, object, indices) else {
+        return Ok(Some(FoundInst::Past(false)));
+    };
+    let head = head_text(alloc, line, before, object)?;
+    let index = ms_line_parts::kept(alloc, line, indices)?;
+    Ok(Some(FoundInst::Whole(RawInst::Gep {
+        base,
+        offset,
+        head,
+        index,
+        tail,
+    })))
+}

@@ -1,0 +1,115 @@
+// Phis.
+ghost use Rattle.std.specs.Prelude.{◌≡◌, ℕ, List, All, IfOk, MatchOption};
+ghost use Rattle.ms_lex.specs.Line.{IsTokenOf};
+ghost use Rattle.ms_ir.specs.declared.names.Ty.{Ty};
+ghost use Rattle.ms_grammar.specs.Form.{entry_parts};
+ghost use Rattle.ms_grammar.specs.Fits.{IsEntryOf};
+ghost use Rattle.ms_grammar.specs.declared.line.RawEntry.{RawEntry};
+ghost use Rattle.ms_grammar.specs.declared.line.RawInst.{RawInst};
+ghost use Rattle.ms_line_insts.specs.Found.{IsFound, SpellInst};
+ghost use Rattle.ms_line_insts.specs.Front.{NoFront, Front};
+ghost use Rattle.ms_line_insts.specs.ListFronts.{NoList, ListFront, IsTail, behind_comma};
+
+use crate::found::FoundInst;
+use crate::groups::{behind_lead, end_tail};
+use crate::steps::{behind_word, local_front, type_front, value_front};
+use ms_grammar::{Keyword, RawEntries, RawEntry, RawInst};
+use ms_ir::{NoMemory, Ty};
+use ms_lex::Token;
+use std::alloc::Global;
+
+// An entry, in its brackets.
+fn entry_front<'a>(
+    alloc: Global,
+    line: &[u8],
+    tokens: &'a [Token],
+    ty: Ty,
+) -> Result<Option<(RawEntry, &'a [Token])>, NoMemory>
+    requires { All (IsTokenOf line.now) tokens.now }
+    ensures { IfOk result (λ found. MatchOption found (NoFront (IsEntryOf ty) entry_parts line.now tokens.now)
+        (λ f. Front (IsEntryOf ty) entry_parts line.now tokens.now f.0 f.1.now)) }
+{
+    let Some(at_value) = behind_lead(line, tokens, Keyword::OpenSquare) else {
+        return Ok(None);
+    };
+    let Some((val, at_comma)) = value_front(alloc, line, at_value, ty)? else {
+        return Ok(None);
+    };
+    let Some(at_from) = behind_lead(line, at_comma, Keyword::Comma) else {
+        return Ok(None);
+    };
+    let Some((from, at_close)) = local_front(alloc, line, at_from)? else {
+        return Ok(None);
+    };
+    match behind_word(line, at_close, Keyword::CloseSquare) {
+        Some(rest) => Ok(Some((RawEntry { val, from }, rest))),
+        None => Ok(None),
+    }
+}
+
+// An entry behind a comma.
+fn further_entry<'a>(
+    alloc: Global,
+    line: &[u8],
+    tokens: &'a [Token],
+    ty: Ty,
+) -> Result<Option<(RawEntry, &'a [Token])>, NoMemory>
+    requires { All (IsTokenOf line.now) tokens.now }
+    ensures { IfOk result (λ found. MatchOption found (NoFront (IsEntryOf ty) (behind_comma entry_parts) line.now tokens.now)
+        (λ f. Front (IsEntryOf ty) (behind_comma entry_parts) line.now tokens.now f.0 f.1.now)) }
+{
+    let Some(behind) = behind_lead(line, tokens, Keyword::Comma) else {
+        return Ok(None);
+    };
+    entry_front(alloc, line, behind, ty)
+}
+
+// All entries: the tail behind them does not go on like a further one.
+fn entries<'a>(
+    alloc: Global,
+    line: &[u8],
+    tokens: &'a [Token],
+    ty: Ty,
+) -> Result<Option<(RawEntries, &'a [Token])>, NoMemory>
+    requires { All (IsTokenOf line.now) tokens.now }
+    ensures { IfOk result (λ found. MatchOption found (NoList IsTail (IsEntryOf ty) entry_parts line.now tokens.now)
+        (λ f. ListFront IsTail (IsEntryOf ty) entry_parts line.now tokens.now f.0 f.1.now)) }
+{
+    let Some((first, behind)) = entry_front(alloc, line, tokens, ty)? else {
+        return Ok(None);
+    };
+    let mut entries = RawEntries::new(alloc);
+    entries.push(first)?;
+    let mut at = behind;
+    while let Some((entry, rest)) = further_entry(alloc, line, at, ty)? {
+        entries.push(entry)?;
+        at = rest;
+    }
+    Ok(Some((entries, at)))
+}
+
+// `phi TYPE [ VALUE, BLOCK ], ..`.
+pub fn phi(alloc: Global, line: &[u8], tokens: &[Token]) -> Result<Option<FoundInst>, NoMemory>
+    requires { All (IsTokenOf line.now) tokens.now }
+    ensures { IfOk result (λ found. MatchOption found
+        ((ty : Ty) (entries : List RawEntry) (rest : List ℕ) → SpellInst line.now tokens.now (RawInst.Phi ty entries rest) → ⊥)
+        (IsFound line.now tokens.now)) }
+{
+    let Some(at_type) = behind_lead(line, tokens, Keyword::Phi) else {
+        return Ok(None);
+    };
+    let Some((ty, at_entries)) = type_front(line, at_type) else {
+        return Ok(None);
+    };
+    let Some((list, at_tail)) = entries(alloc, line, at_entries, ty)? else {
+        return Ok(None);
+    };
+    match end_tail(alloc, line, at_tail)? {
+        Some(tail) => Ok(Some(FoundInst::Whole(RawInst::Phi {
+            ty,
+            entries: list,
+            tail,
+        }))),
+        None => Ok(None),
+    }
+}
