@@ -1,8 +1,8 @@
 -- A settled form of a function on a reducible graph answers what paths say.
-use Rattle.std.proofs.Common.{Bool, true, false, ◌≡◌, ◌<◌, ◌≤◌, ◌⊎◌, ◌↔◌, inl, inr, ℕ, List, [], length, take, get_or, Option, Some, None, refl, ap, sym, ◌∙◌, subst, arith, ⊎_elim}
+use Rattle.std.proofs.Common.{Bool, true, false, ◌≡◌, ◌<◌, ◌≤◌, ◌⊎◌, ◌↔◌, inl, inr, ℕ, List, length, take, Option, Some, None, refl, ap, sym, ◌∙◌, subst, arith, ⊎_elim}
 use Rattle.std.specs.Prelude.{slice_get, is_some, IsTrue}
 use Rattle.std.proofs.lemmas.Bool.{cases_Bool, both_ways}
-use Rattle.std.proofs.lemmas.List.{get_or_past, take_all}
+use Rattle.std.proofs.lemmas.List.{take_all}
 use Rattle.ms_paths.specs.Flow.{Block as Run, block_at, HasEdge, IsReached, Event, Phi as LastPhi, after, entered, NeedsPhi, IsNeeded, IsAnswer, StandsOnce, IsReducible, IsClosed, IsRegion, IsForm, NoTrivialPhi, NoIdlePhi}
 use Rattle.ms_ir.specs.declared.names.InstNo.{InstNo}
 use Rattle.ms_ir.specs.Graph.{numbers, graph_of, defs_of}
@@ -11,16 +11,14 @@ use Rattle.ms_flow.specs.Table.{edges_of}
 use Rattle.ms_flow.specs.Flow.{FlowState, sources_of, order_of}
 use Rattle.ms_form.specs.declared.access.Access.{Access}
 use Rattle.ms_form.specs.declared.access.Access.TheVariants.{Phi}
-use Rattle.ms_form.specs.Form.{FormState, HasPlaces, after_last}
-use Rattle.ms_form.specs.Counts.{pred_counts}
+use Rattle.ms_form.specs.Form.{FormState, after_last}
 use Rattle.ms_build.specs.Accesses.{event_of, has_phi, enters_at, operand_at, entering_at, leaving_at}
-use Rattle.ms_build.specs.Settled.{slot_count, NoTrivial}
+use Rattle.ms_build.specs.Settled.{NoTrivial}
 use Rattle.ms_build.specs.Filled.{before_at, last_from}
 use Rattle.ms_build.specs.Built.{IsFilled, IsAnswered, IsFormOf}
-use Rattle.ms_build.proofs.Slots.{IsSlot, EdgesAll, slot_of_edge, slots_of_form, blocks_of_form}
+use Rattle.ms_build.proofs.Slots.{IsSlot, EdgesAll, slot_of_edge}
 use Rattle.ms_build.proofs.Lists.{member_at}
 use Rattle.ms_build.proofs.Define.{OnePlaced}
-use Rattle.ms_build.proofs.Phis.{in_phis}
 use Rattle.ms_build.proofs.Leaving.{leaves_true}
 use Rattle.ms_build.proofs.Whole.{OrderReached, EdgesTold, source_edge, entered_all}
 use Rattle.ms_build.proofs.Events.{event_at, access_of, access_of-event, events_at, take-numbers, stands_once, def_told, event_after, take_found}
@@ -41,7 +39,7 @@ module _ (func : FuncState) (flow : FlowState) (f : FormState) (same : flow.grap
     (edges : (a b : ℕ) → HasEdge (edges_of func.blocks) a b ↔ HasEdge (graph_of func.blocks) a b)
     (reach : (b : ℕ) → IsReached (edges_of func.blocks) b ↔ IsReached (graph_of func.blocks) b)
     (order : OrderReached flow.graph) (told : EdgesTold flow.graph) (all : EdgesAll flow.graph)
-    (places : HasPlaces (pred_counts flow) 0 f) (filled : IsFilled func flow.graph f) (none : NoTrivial flow.graph f) (whole : WholeForm) (answers : FormAnswers) where
+    (filled : IsFilled func flow.graph f) (none : NoTrivial flow.graph f) (whole : WholeForm) (answers : FormAnswers) where
   to_g : (b : ℕ) → IsReached (graph_of func.blocks) b → IsReached flow.graph b
   to_g b r = subst (λ (g : List Run). IsReached g b) (sym same) ((reach b).1 r)
 
@@ -113,16 +111,14 @@ module _ (func : FuncState) (flow : FlowState) (f : FormState) (same : flow.grap
   no_trivial : NoTrivialPhi (graph_of func.blocks) Z phis operand
   no_trivial b z t triv =
       let r : IsReached flow.graph b = (order b).0 z in
-      none b (access_of triv.0) r t (
+      none b (access_of triv.0) t (
         λ i. ap access_of (triv.1.0 i),
         λ slot lt. brings slot lt r,
       )
     where
-      brings : (slot : ℕ) → slot < slot_count f b → IsReached flow.graph b → (operand_at f b slot ≡ Some (access_of triv.0)) ⊎ (operand_at f b slot ≡ Some (Phi (record { 0 = b })))
+      brings : (slot : ℕ) → slot < length (sources_of flow.graph b) → IsReached flow.graph b → (operand_at f b slot ≡ Some (access_of triv.0)) ⊎ (operand_at f b slot ≡ Some (Phi (record { 0 = b })))
       brings slot lt r =
-          let below : b < length flow.graph = (let n = blocks_of_form flow 0 f places in let l = in_phis f b t in omega arith) in
-          let count = slots_of_form flow 0 f b places below in
-          let s = member_at (sources_of flow.graph b) slot (omega arith) in
+          let s = member_at (sources_of flow.graph b) slot lt in
           let e = source_edge flow.graph told b slot s.0 s.1 in
           let a = some_access (leaving_at f s.0.from) (leaves_true f s.0.from (entered_at s.0.from e.0)) in
           let is : operand_at f b slot ≡ Some a.0 = filled.consistent.operands b slot s.0 t s.1 ∙ a.1 in
@@ -173,17 +169,9 @@ module _ (func : FuncState) (flow : FlowState) (f : FormState) (same : flow.grap
         ∙ ap (λ (l : Option InstNo). after_last l (entering_at f e.from)) (sym (filled.lasts e.from)) in
         subst (IsAnswered func.blocks e.from (length (insts_at func.blocks e.from))) (end ∙ sym (filled.consistent.operands b slot e t found')) (before_answered e.from (length (insts_at func.blocks e.from)) (from_g e.from r.0));
     no_operand = λ b slot out.
-        ⊎_elim (λ (o : has_phi f b ≡ false). filled.no_operand b slot o)
-        (λ (past : length (sources_of (edges_of func.blocks) b) ≤ slot).
-        ⊎_elim (λ (t : has_phi f b ≡ true). past_slots b slot t (subst (λ (g : List Run). length (sources_of g b) ≤ slot) (sym same) past)) (λ (o : has_phi f b ≡ false). filled.no_operand b slot o) (cases_Bool (has_phi f b)))
-        out;
+        filled.no_operand b slot (⊎_elim (λ (o : has_phi f b ≡ false). inl o)
+        (λ (past : length (sources_of (edges_of func.blocks) b) ≤ slot). inr (subst (λ (g : List Run). length (sources_of g b) ≤ slot) (sym same) past)) out);
     defining = λ b k x r a. subst (IsAnswered func.blocks b k) (sym (filled.defining b k x (to_g b r) a)) (before_answered b k r);
     no_defining = λ i n. filled.no_defining i (λ b k x r a e. n b k x (from_g b r) a e);
     lasts = filled.lasts;
   }
-    where
-      past_slots : (b slot : ℕ) → has_phi f b ≡ true → length (sources_of flow.graph b) ≤ slot → operand_at f b slot ≡ None
-      past_slots b slot t h =
-          let below : b < length flow.graph = (let n = blocks_of_form flow 0 f places in let l = in_phis f b t in omega arith) in
-          let count = slots_of_form flow 0 f b places below in
-          get_or_past (get_or f.operands b []) slot None (omega arith)

@@ -1,18 +1,17 @@
 -- Into a reached block with a phi comes some other access: the way back from its own phi leads to the entry or to another edge.
-use Rattle.std.proofs.Common.{true, false, ◌≡◌, ◌≢◌, ◌<◌, ◌⊎◌, inl, inr, ℕ, List, [], ◌∷◌, length, get_or, Option, Some, None, ap, sym, ◌∙◌, subst, arith, ⊎_elim}
+use Rattle.std.proofs.Common.{true, false, ◌≡◌, ◌≢◌, ◌⊎◌, inl, inr, ℕ, List, [], ◌∷◌, get_or, Option, Some, None, ap, sym, ◌∙◌, subst, ⊎_elim}
 use Rattle.std.proofs.lemmas.Bool.{cases_Bool, cases_eq}
 use Rattle.ms_paths.specs.Flow.{Block as Run, HasEdge, IsPath, IsReached}
 use Rattle.ms_ir.specs.declared.names.InstNo.{InstNo}
 use Rattle.ms_ir.specs.declared.names.BlockNo.{BlockNo}
-use Rattle.ms_flow.specs.Flow.{FlowState, sources_of}
+use Rattle.ms_flow.specs.Flow.{sources_of}
 use Rattle.ms_form.specs.declared.access.Access.{Access}
 use Rattle.ms_form.specs.declared.access.Access.TheVariants.{Entry, Of, Phi}
-use Rattle.ms_form.specs.Form.{FormState, HasPlaces, after_last}
-use Rattle.ms_form.specs.Counts.{pred_counts}
+use Rattle.ms_form.specs.Form.{FormState, after_last}
 use Rattle.ms_build.specs.Accesses.{has_phi, enters_at, operand_at, entering_at, leaving_at}
 use Rattle.ms_build.specs.Consistent.{IsConsistent}
 use Rattle.ms_build.specs.Changes.{HasOther}
-use Rattle.ms_build.proofs.Slots.{IsSlot, EdgesAll, slot_of_edge, slots_of_form}
+use Rattle.ms_build.proofs.Slots.{IsSlot, EdgesAll, slot_of_edge}
 use Rattle.ms_build.proofs.Lists.{slice_get_below}
 use Rattle.ms_build.proofs.Phis.{one_phi}
 
@@ -71,12 +70,11 @@ comes g f b k all (a ∷ p) path =
     (λ (n : leaving_at f a ≢ Some (Phi b)). inr (record { from = a; reached = (p, path.1); edge = path.0; other = n }))
     (is_the_phi b (leaving_at f a))
 
-pub has_other : (flow : FlowState) (insts : ℕ) (f : FormState) (b : BlockNo) → HasPlaces (pred_counts flow) insts f → b.0 < length flow.graph → IsConsistent flow.graph f → EdgesAll flow.graph
-    → IsReached flow.graph b.0 → has_phi f b.0 ≡ true → HasOther f b
-has_other flow insts f b places lt k all r had =
+pub has_other : (g : List Run) (f : FormState) (b : BlockNo) → IsConsistent g f → EdgesAll g → IsReached g b.0 → has_phi f b.0 ≡ true → HasOther g f b
+has_other g f b k all r had =
     ⊎_elim (λ (z : b.0 ≡ 0). inl z)
-    (λ (c : ComesOver flow.graph f b).
-    let over : IsSlot flow.graph c.from b.0 = slot_of_edge flow.graph all c.from b.0 c.reached c.edge in
+    (λ (c : ComesOver g f b).
+    let over : IsSlot g c.from b.0 = slot_of_edge g all c.from b.0 c.reached c.edge in
     let brought : operand_at f b.0 over.slot ≡ leaving_at f c.from = k.operands b.0 over.slot over.source had over.found ∙ ap (leaving_at f) over.from in
-    inr (over.slot, (let s = slots_of_form flow insts f b.0 places lt in let l = slice_get_below (sources_of flow.graph b.0) over.slot over.source over.found in omega arith), λ i. c.other (sym brought ∙ i)))
-    (comes flow.graph f b k all r.0 r.1)
+    inr (over.slot, slice_get_below (sources_of g b.0) over.slot over.source over.found, λ i. c.other (sym brought ∙ i)))
+    (comes g f b k all r.0 r.1)

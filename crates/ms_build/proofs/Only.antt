@@ -1,13 +1,15 @@
 -- The one access among the operands of a block besides its own phi.
-use Rattle.std.proofs.Common.{◌≡◌, ◌≢◌, ◌<◌, ◌≤◌, ◌⊎◌, inl, inr, ℕ, ◌+◌, Option, Some, None, refl, sym, ◌∙◌, subst, arith, ⊎_elim}
+use Rattle.std.proofs.Common.{◌≡◌, ◌≢◌, ◌<◌, ◌≤◌, ◌⊎◌, inl, inr, ℕ, ◌+◌, List, length, Option, Some, None, refl, sym, ◌∙◌, subst, arith, ⊎_elim}
 use Rattle.std.specs.Prelude.{MatchOption}
 use Rattle.std.proofs.lemmas.Bool.{cases_eq}
+use Rattle.ms_paths.specs.Flow.{Block as Run}
 use Rattle.ms_ir.specs.declared.names.BlockNo.{BlockNo}
+use Rattle.ms_flow.specs.Flow.{sources_of}
 use Rattle.ms_form.specs.declared.access.Access.{Access}
 use Rattle.ms_form.specs.declared.access.Access.TheVariants.{Entry, Phi}
 use Rattle.ms_form.specs.Form.{FormState, HasList}
 use Rattle.ms_build.specs.Accesses.{operand_at}
-use Rattle.ms_build.specs.Settled.{slot_count, IsTrivial}
+use Rattle.ms_build.specs.Settled.{IsTrivial}
 use Rattle.ms_build.specs.Changes.{HasOther}
 
 -- the first operands are the phi of their block and this access alone
@@ -57,18 +59,22 @@ only_again f b k a h e = record {
 }
 
 -- it is one more, so that the phi is not trivial
-pub only_two : (f : FormState) (b : BlockNo) (k : ℕ) (a d : Access) → IsOnly f b k (Some a) → operand_at f b.0 k ≡ Some d → d ≢ Phi b → a ≢ d → k < slot_count f b.0 → (x : Access) → IsTrivial f b.0 x → ⊥
-only_two f b k a d h e n ne lt x t =
+pub only_two : (g : List Run) (f : FormState) (b : BlockNo) (k : ℕ) (a d : Access) → IsOnly f b k (Some a) → operand_at f b.0 k ≡ Some d → d ≢ Phi b → a ≢ d → k < length (sources_of g b.0) → (x : Access) → IsTrivial g f b.0 x → ⊥
+only_two g f b k a d h e n ne lt x t =
     let is : x ≡ a = h.only x (t.0, λ slot lt'. t.1 slot (omega arith)) in
     ⊎_elim (λ (i : operand_at f b.0 k ≡ Some x). ne (let both : Some x ≡ Some d = sym i ∙ e in cc)) (λ (i : operand_at f b.0 k ≡ Some (Phi b)). n (let both : Some d ≡ Some (Phi b) = sym e ∙ i in cc)) (t.1 k lt)
 
 -- an empty operand is none of these
-pub only_empty : (f : FormState) (b : BlockNo) (k : ℕ) → operand_at f b.0 k ≡ None → k < slot_count f b.0 → (x : Access) → IsTrivial f b.0 x → ⊥
-only_empty f b k e lt x t = ⊎_elim (λ (i : operand_at f b.0 k ≡ Some x). let both : None ≡ Some x = sym e ∙ i in cc) (λ (i : operand_at f b.0 k ≡ Some (Phi b)). let both : None ≡ Some (Phi b) = sym e ∙ i in cc) (t.1 k lt)
+pub only_empty : (g : List Run) (f : FormState) (b : BlockNo) (k : ℕ) → operand_at f b.0 k ≡ None → k < length (sources_of g b.0) → (x : Access) → IsTrivial g f b.0 x → ⊥
+only_empty g f b k e lt x t = ⊎_elim (λ (i : operand_at f b.0 k ≡ Some x). let both : None ≡ Some x = sym e ∙ i in cc) (λ (i : operand_at f b.0 k ≡ Some (Phi b)). let both : None ≡ Some (Phi b) = sym e ∙ i in cc) (t.1 k lt)
 
 -- all operands were looked at
-pub only_result : (f : FormState) (b : BlockNo) (k : ℕ) (x : Option Access) → IsOnly f b k x → slot_count f b.0 ≤ k → HasOther f b
-    → MatchOption x ((a : Access) → IsTrivial f b.0 a → ⊥) (λ a. IsTrivial f b.0 a × (a ≢ Phi b) × HasList f a)
-only_result f b k None h all (inl z) = absurd (h.0 z)
-only_result f b k None h all (inr o) = absurd (o.2 (h.1 o.0 (let lt = o.1 in omega arith)))
-only_result f b k (Some a) h all o = ((h.trivial.0, λ slot lt. h.trivial.1 slot (omega arith)), h.other, h.listed)
+pub only_result : (g : List Run) (f : FormState) (b : BlockNo) (k : ℕ) (x : Option Access) → IsOnly f b k x → length (sources_of g b.0) ≤ k → HasOther g f b
+    → MatchOption x ((a : Access) → IsTrivial g f b.0 a → ⊥) (λ a. IsTrivial g f b.0 a × (a ≢ Phi b) × HasList f a)
+only_result g f b k None h all (inl z) = absurd (h.0 z)
+only_result g f b k None h all (inr o) = absurd (o.2 (h.1 o.0 (let lt = o.1 in omega arith)))
+only_result g f b k (Some a) h all o = ((h.trivial.0, λ slot lt. h.trivial.1 slot (omega arith)), h.other, h.listed)
+
+-- no edge leads to the block from a reached block
+pub none_comes : (g : List Run) (f : FormState) (b : BlockNo) → length (sources_of g b.0) ≡ 0 → IsTrivial g f b.0 Entry × (Entry ≢ Phi b) × HasList f Entry
+none_comes g f b none = ((λ z. refl, λ slot lt. absurd (omega (arith, lt, none))), λ w. cc, tt)

@@ -17,7 +17,7 @@ use Rattle.ms_form.specs.Form.{FormState, entry_of, after_last}
 use Rattle.ms_form.specs.Waiting.{times}
 use Rattle.ms_build.specs.Accesses.{has_phi, enters_at, operand_at, defining_at, entering_at, leaving_at}
 use Rattle.ms_build.specs.Consistent.{IsConsistent}
-use Rattle.ms_build.specs.Settled.{slot_count, IsTrivial, renamed, IsSettled}
+use Rattle.ms_build.specs.Settled.{IsTrivial, renamed, IsSettled}
 use Rattle.ms_build.specs.Changes.{IsChanged, IsAwaited, IsOut, Waits, one_set, emptied, replaced, all_replaced}
 use Rattle.ms_build.proofs.Lists.{slice_get_below}
 use Rattle.ms_build.proofs.Phis.{one_phi}
@@ -105,8 +105,8 @@ module _ (g : List Run) (b : BlockNo) (a : Access) (f h : FormState) (out : IsOu
   leaving_now : (x : ℕ) → leaving_at h x ≡ replaced b a (leaving_at f x)
   leaving_now x = rw out.lasts (after_now (get_or f.lasts x None) (entering_at f x) (entering_at h x) (entering_now x))
 
-  pub consistent_out : IsConsistent g f → IsTrivial f b.0 a → a ≢ Phi b → slot_count f b.0 ≡ length (sources_of g b.0) → IsConsistent g h
-  consistent_out k triv ne len = record {
+  pub consistent_out : IsConsistent g f → IsTrivial g f b.0 a → a ≢ Phi b → IsConsistent g h
+  consistent_out k triv ne = record {
     entry = λ t.
         ⊎_elim
         (λ (s : 0 ≡ b.0). enters_here 0 s ∙ ap Some (triv.0 (sym s)))
@@ -129,7 +129,7 @@ module _ (g : List Run) (b : BlockNo) (a : Access) (f h : FormState) (out : IsOu
           ⊎_elim
           (λ (i : operand_at f b.0 slot ≡ Some a). ap (replaced b a) i ∙ replaced_other b a (Some a) (λ w. ne (cc)))
           (λ (i : operand_at f b.0 slot ≡ Some (Phi b)). ap (replaced b a) i ∙ replaced_phi b a)
-          (triv.1 slot (let lt = slice_get_below (sources_of g b.0) slot e found in omega arith))
+          (triv.1 slot (slice_get_below (sources_of g b.0) slot e found))
 
   pub settled_out : (old : FormState) → IsSettled old f → IsSettled old h
   settled_out old s = record {
@@ -168,8 +168,8 @@ module _ (g : List Run) (b : BlockNo) (a : Access) (f h : FormState) (out : IsOu
           (cases_Bool (has_phi old c.0))
 
   -- A block whose phi is trivial now waits, or its operands are as before.
-  pub trivial_before : (x : ℕ) (d : Access) → has_phi h x ≡ true → IsTrivial h x d → slot_count h x ≡ slot_count f x → Waits h x ⊎ ((has_phi f x ≡ true) × IsTrivial f x d)
-  trivial_before x d t triv len = elim (leb_tells 1 (times x h.waiting)) [
+  pub trivial_before : (x : ℕ) (d : Access) → has_phi h x ≡ true → IsTrivial g h x d → Waits h x ⊎ ((has_phi f x ≡ true) × IsTrivial g f x d)
+  trivial_before x d t triv = elim (leb_tells 1 (times x h.waiting)) [
     | inl yes' ↦ inl yes'.1
     | inr no' ↦
         let n : x ≡ b.0 → ⊥ = phi_differs x t in
@@ -179,7 +179,7 @@ module _ (g : List Run) (b : BlockNo) (a : Access) (f h : FormState) (out : IsOu
             triv.0,
             λ slot lt.
                 let kept : operand_at h x slot ≡ operand_at f x slot = operand_other x slot n ∙ replaced_other b a (operand_at f x slot) (λ i. absurd (let w = out.named (record { 0 = x }) slot n i in omega (arith, no'.1, w))) in
-                ⊎_elim (λ (i : operand_at h x slot ≡ Some d). inl (sym kept ∙ i)) (λ (i : operand_at h x slot ≡ Some (Phi (record { 0 = x }))). inr (sym kept ∙ i)) (triv.1 slot (omega arith)),
+                ⊎_elim (λ (i : operand_at h x slot ≡ Some d). inl (sym kept ∙ i)) (λ (i : operand_at h x slot ≡ Some (Phi (record { 0 = x }))). inr (sym kept ∙ i)) (triv.1 slot lt),
           ),
         )
   ]

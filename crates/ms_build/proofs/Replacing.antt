@@ -10,7 +10,8 @@ use Rattle.ms_form.specs.Form.{FormState, entry_of, users_of, KeepsPlaces, AreUs
 use Rattle.ms_form.specs.Lists.{IsIn}
 use Rattle.ms_build.specs.Settled.{slot_count}
 use Rattle.ms_build.specs.Changes.{IsChanged, IsAwaited, Waits, one_set, all_replaced, waiting_for}
-use Rattle.ms_build.proofs.Entries.{same_user_tells, entry-waiting}
+use Rattle.ms_form.proofs.UserLemmas.{same_user_tells}
+use Rattle.ms_build.proofs.Entries.{entry-waiting}
 use Rattle.ms_build.proofs.Waits.{waits_itself, waits_for_on}
 use Rattle.ms_build.proofs.Rules.{replaced_other, replaced_phi}
 

@@ -1,9 +1,8 @@
 -- The slots of a form and the edges of its graph.
-use Rattle.std.proofs.Common.{◌≡◌, ◌<◌, ℕ, List, [], length, get_or, map, Some, refl, ap, sym, ◌∙◌, subst, arith}
+use Rattle.std.proofs.Common.{◌≡◌, ◌<◌, ◌≤◌, ℕ, List, length, get_or, Some, refl, ap, ◌∙◌, subst, arith}
 use Rattle.std.specs.Prelude.{slice_get, slice_index, Contains}
-use Rattle.std.specs.List.{range_with_len}
-use Rattle.std.proofs.lemmas.List.{get_or-map, get_or_default, length-map}
-use Rattle.std.proofs.lemmas.List.FromFn.{get_or-map-range_with_len, length-map-range_with_len, length-range_with_len}
+use Rattle.std.proofs.lemmas.List.{get_or_default}
+use Rattle.std.proofs.lemmas.List.FromFn.{get_or-map-range_with_len, length-map-range_with_len}
 use Rattle.std.proofs.lemmas.Option.{slice_get-get_or}
 use Rattle.ms_paths.specs.Flow.{Block as Run, HasEdge, IsReached}
 use Rattle.ms_flow.specs.declared.sources.Source.{Source}
@@ -16,14 +15,12 @@ use Rattle.ms_build.specs.Settled.{slot_count}
 pub blocks_of_form : (flow : FlowState) (insts : ℕ) (f : FormState) → HasPlaces (pred_counts flow) insts f → length f.phis ≡ length flow.graph
 blocks_of_form flow insts f p = p.blocks ∙ length-map-range_with_len (pred_count flow) 0 (length flow.graph)
 
--- a block of the form has a slot for each edge to it from a reached block
-pub slots_of_form : (flow : FlowState) (insts : ℕ) (f : FormState) (b : ℕ) → HasPlaces (pred_counts flow) insts f → b < length flow.graph → slot_count f b ≡ length (sources_of flow.graph b)
+-- a block of the form has a slot for each edge to it from a reached block, and may have more
+pub slots_of_form : (flow : FlowState) (insts : ℕ) (f : FormState) (b : ℕ) → HasPlaces (pred_counts flow) insts f → b < length flow.graph → length (sources_of flow.graph b) ≤ slot_count f b
 slots_of_form flow insts f b p lt =
-    let lens : map length f.operands ≡ pred_counts flow = p.slots in
+    let least = p.slots b in
     let count : get_or (pred_counts flow) b 0 ≡ pred_count flow b = get_or-map-range_with_len (pred_count flow) 0 (length flow.graph) b b 0 lt (omega arith) in
-    let rows : length f.operands ≡ length (range_with_len 0 (length flow.graph)) = simp length-map at (ap length lens) in
-    let size = length-range_with_len 0 (length flow.graph) in
-    sym (get_or-map length f.operands b [] 0 (omega arith)) ∙ ap (λ (l : List ℕ). get_or l b 0) lens ∙ count
+    omega arith
 
 -- the slot of an edge from a reached block
 pub record IsSlot (g : List Run) (a b : ℕ) : Type 0 where

@@ -3,7 +3,7 @@ use Rattle.std.proofs.Common.{Bool, true, false, ◌≡◌, ◌<◌, ◌≤◌, 
 use Rattle.std.specs.Prelude.{sum_by}
 use Rattle.std.proofs.lemmas.Bool.{cases_Bool, both_ways}
 use Rattle.std.proofs.lemmas.List.Sums.{sum_by-set}
-use Rattle.ms_paths.specs.Flow.{Block as Run, IsReached}
+use Rattle.ms_paths.specs.Flow.{Block as Run}
 use Rattle.ms_ir.specs.declared.names.BlockNo.{BlockNo}
 use Rattle.ms_flow.specs.Flow.{FlowState}
 use Rattle.ms_form.specs.declared.access.Access.{Access}
@@ -13,11 +13,11 @@ use Rattle.ms_form.specs.Counts.{pred_counts}
 use Rattle.ms_form.specs.Waiting.{one_if, times}
 use Rattle.ms_build.specs.Accesses.{has_phi}
 use Rattle.ms_build.specs.Consistent.{IsConsistent}
-use Rattle.ms_build.specs.Settled.{slot_count, IsTrivial, NoTrivial, renamed, IsSettled}
+use Rattle.ms_build.specs.Settled.{IsTrivial, NoTrivial, renamed, IsSettled}
 use Rattle.ms_build.specs.Changes.{IsLeft, IsTakenOut, IsTried, Waits}
 use Rattle.ms_build.proofs.Phis.{in_phis}
 use Rattle.ms_build.proofs.Waits.{waits_still}
-use Rattle.ms_build.proofs.Slots.{blocks_of_form, slots_of_form}
+use Rattle.ms_build.proofs.Slots.{blocks_of_form}
 use Rattle.ms_build.proofs.Out.{consistent_out, settled_out, trivial_before, phi_gone}
 
 pub record IsSettling (flow : FlowState) (old new : FormState) : Type 0 where
@@ -25,7 +25,7 @@ pub record IsSettling (flow : FlowState) (old new : FormState) : Type 0 where
   pub settled : IsSettled old new
   pub places : HasPlaces (pred_counts flow) 0 new
   pub keeps : KeepsPlaces old new
-  pub awaited : (b : ℕ) (a : Access) → IsReached flow.graph b → has_phi new b ≡ true → IsTrivial new b a → Waits new b
+  pub awaited : (b : ℕ) (a : Access) → has_phi new b ≡ true → IsTrivial flow.graph new b a → Waits new b
 
 consistent_waiting : (g : List Run) (f : FormState) (list : List ℕ) → IsConsistent g f → IsConsistent g (record f { waiting = list })
 consistent_waiting g f list k = record { entry = k.entry; enters = k.enters; operands = k.operands }
@@ -74,7 +74,7 @@ settling_begun flow f g same all keeps places k = record {
   settled = subst (IsSettled f) (sym same) (settled_none f g.waiting);
   places = keeps (pred_counts flow) 0 places;
   keeps = keeps;
-  awaited = λ b a r t triv. all b (let in' = in_phis g b t in let n = blocks_of_form flow 0 g (keeps (pred_counts flow) 0 places) in omega arith);
+  awaited = λ b a t triv. all b (let in' = in_phis g b t in let n = blocks_of_form flow 0 g (keeps (pred_counts flow) 0 places) in omega arith);
 }
 
 -- one block that waited was tried
@@ -94,11 +94,11 @@ settling_next flow old f h k b s lt list same keeps' tried keeps = ⊎_elim left
     all_keep : KeepsPlaces old k
     all_keep counts insts p = keeps counts insts (keeps' counts insts (s.keeps counts insts p))
 
-    awaited_in : (x : ℕ) (a : Access) → IsReached flow.graph x → has_phi h x ≡ true → IsTrivial h x a → (b.0 ≡ x) ⊎ Waits h x
-    awaited_in x a r t triv =
+    awaited_in : (x : ℕ) (a : Access) → has_phi h x ≡ true → IsTrivial flow.graph h x a → (b.0 ≡ x) ⊎ Waits h x
+    awaited_in x a t triv =
         let t' : has_phi f x ≡ true = rw same at t in
-        let triv' : IsTrivial f x a = subst (λ (g : FormState). IsTrivial g x a → IsTrivial f x a) (sym same) (λ w. w) triv in
-        let w : 1 ≤ times x f.waiting = s.awaited x a r t' triv' in
+        let triv' : IsTrivial flow.graph f x a = subst (λ (g : FormState). IsTrivial flow.graph g x a → IsTrivial flow.graph f x a) (sym same) (λ w. w) triv in
+        let w : 1 ≤ times x f.waiting = s.awaited x a t' triv' in
         waits_still x b.0 h.waiting (rw list at w)
 
     left : IsLeft flow.graph b h k → IsSettling flow old k
@@ -107,27 +107,23 @@ settling_next flow old f h k b s lt list same keeps' tried keeps = ⊎_elim left
       settled = settled;
       places = places;
       keeps = λ counts insts p. keeps' counts insts (s.keeps counts insts p);
-      awaited = λ x a r t triv.
-          ⊎_elim (λ (i : b.0 ≡ x). absurd (l.none a (subst (IsReached flow.graph) (sym i) r) (subst (λ (n : ℕ). has_phi h n ≡ true) (sym i) t) (subst (λ (n : ℕ). IsTrivial h n a) (sym i) triv)))
-          (λ (w : Waits h x). w) (awaited_in x a r t triv);
+      awaited = λ x a t triv.
+          ⊎_elim (λ (i : b.0 ≡ x). absurd (l.none a (subst (λ (n : ℕ). has_phi h n ≡ true) (sym i) t) (subst (λ (n : ℕ). IsTrivial flow.graph h n a) (sym i) triv)))
+          (λ (w : Waits h x). w) (awaited_in x a t triv);
     })
 
     out : IsTakenOut flow.graph b h k → IsSettling flow old k
     out o =
-        let n = blocks_of_form flow 0 f s.places in
-        let n' = blocks_of_form flow 0 k (all_keep_now) in
         record {
-          consistent = consistent_out flow.graph b o.access h k o.out o.had consistent o.trivial o.other (slots_of_form flow 0 h b.0 places (omega arith));
+          consistent = consistent_out flow.graph b o.access h k o.out o.had consistent o.trivial o.other;
           settled = settled_out flow.graph b o.access h k o.out o.had old settled;
           places = all_keep_now;
           keeps = all_keep;
-          awaited = λ x a r t triv.
-              let in' : x < length flow.graph = (let i = in_phis k x t in omega arith) in
-              let len : slot_count k x ≡ slot_count h x = slots_of_form flow 0 k x all_keep_now in' ∙ sym (slots_of_form flow 0 h x places in') in
+          awaited = λ x a t triv.
               ⊎_elim (λ (w : Waits k x). w)
-              (λ (was : (has_phi h x ≡ true) × IsTrivial h x a).
-              ⊎_elim (λ (i : b.0 ≡ x). absurd (gone o x i t)) (λ (w : Waits h x). o.out.on x w) (awaited_in x a r was.0 was.1))
-              (trivial_before flow.graph b o.access h k o.out o.had x a t triv len);
+              (λ (was : (has_phi h x ≡ true) × IsTrivial flow.graph h x a).
+              ⊎_elim (λ (i : b.0 ≡ x). absurd (gone o x i t)) (λ (w : Waits h x). o.out.on x w) (awaited_in x a was.0 was.1))
+              (trivial_before flow.graph b o.access h k o.out o.had x a t triv);
         }
       where
         all_keep_now : HasPlaces (pred_counts flow) 0 k
@@ -137,7 +133,7 @@ settling_next flow old f h k b s lt list same keeps' tried keeps = ⊎_elim left
         gone o x i t = both_ways (has_phi k b.0) (phi_gone flow.graph b o.access h k o.out o.had) (subst (λ (n : ℕ). has_phi k n ≡ true) (sym i) t)
 
 pub none_waits : (flow : FlowState) (old f : FormState) → IsSettling flow old f → f.waiting ≡ [] → NoTrivial flow.graph f
-none_waits flow old f s none b a r t triv = let w : 1 ≤ times b f.waiting = s.awaited b a r t triv in let w' = rw none at w in absurd (omega arith)
+none_waits flow old f s none b a t triv = let w : 1 ≤ times b f.waiting = s.awaited b a t triv in let w' = rw none at w in absurd (omega arith)
 
 -- how many phis there are
 abbrev pub phi_count : FormState → ℕ

@@ -1,5 +1,5 @@
 -- A filled form of a function is consistent, and stays filled as it is settled.
-use Rattle.std.proofs.Common.{Bool, true, false, ◌≡◌, ◌<◌, inl, inr, ℕ, zero, suc, List, [], ◌∷◌, length, map, get_or, Option, Some, None, refl, ap, sym, ◌∙◌, subst, ⊎_elim, take}
+use Rattle.std.proofs.Common.{Bool, true, false, ◌≡◌, ◌<◌, ◌≤◌, inl, inr, ℕ, zero, suc, List, [], ◌∷◌, length, map, get_or, Option, Some, None, refl, ap, sym, ◌∙◌, subst, ⊎_elim, take}
 use Rattle.std.specs.Prelude.{slice_get, slice_index, is_some, Contains}
 use Rattle.std.proofs.Math.ListN.{replicate}
 use Rattle.std.proofs.lemmas.Bool.{cases_Bool, both_ways}
@@ -15,7 +15,7 @@ use Rattle.ms_form.specs.declared.access.Access.{Access}
 use Rattle.ms_form.specs.declared.access.Access.TheVariants.{Entry, Phi}
 use Rattle.ms_form.specs.declared.access.User.TheVariants.{Inst, Operand, Entering}
 use Rattle.ms_form.specs.Form.{FormState, after_last, empty_form, empty_slots}
-use Rattle.ms_build.specs.Accesses.{has_phi, enters_at, entering_at, leaving_at}
+use Rattle.ms_build.specs.Accesses.{has_phi, enters_at, operand_at, entering_at, leaving_at}
 use Rattle.ms_build.specs.Consistent.{IsConsistent}
 use Rattle.ms_build.specs.Settled.{renamed, IsSettled}
 use Rattle.ms_build.specs.Changes.{IsChanged}
@@ -26,7 +26,7 @@ use Rattle.ms_build.proofs.Slots.{IsSlot, EdgesAll, slot_of_edge}
 use Rattle.ms_build.proofs.Fill.{KeepsEntering, same_leaving}
 use Rattle.ms_build.proofs.Define.{defined_entering}
 use Rattle.ms_build.proofs.Leaving.{leaves_true}
-use Rattle.ms_build.proofs.Lists.{slice_get_below}
+use Rattle.ms_build.proofs.Lists.{slice_get_below, slice_past}
 
 -- A new form is blank.
 
@@ -115,14 +115,17 @@ filled_of func g n e f h k order told past lasts r same c d = record {
     enters = λ b slot s t found. enters b ∙ (r.enters b slot s (past b (target_reached g told b slot s found)) (sym (phis b) ∙ t) found).1 ∙ sym (leaving s.from);
     operands = λ b slot s t found.
         let t' : has_phi f b ≡ true = sym (phis b) ∙ t in
-        d.operands b slot ∙ c.entries (Operand (record { 0 = b }) slot) ∙ (rw t' (ap (brought_by f) found)) ∙ sym (leaving s.from);
+        d.operands b slot ∙ c.entries (Operand (record { 0 = b }) slot) ∙ (rw t' (ap (brought_by f (operand_at f b slot)) found)) ∙ sym (leaving s.from);
   };
   phis = λ b t. phi_reached g n f order r b (sym (phis b) ∙ t);
   no_entering = λ b out.
       enters b ∙ ⊎_elim (λ (u : IsReached g b → ⊥). (r.later b (λ p. u (past_reached g n b order p))).1) (λ (t : has_phi k b ≡ true). r.with_phi b (sym (phis b) ∙ t)) out;
-  no_operand = λ b slot t.
-      let t' : has_phi f b ≡ false = sym (phis b) ∙ t in
-      d.operands b slot ∙ c.entries (Operand (record { 0 = b }) slot) ∙ (rw t' (r.operands b slot));
+  no_operand = λ b slot none.
+      d.operands b slot ∙ c.entries (Operand (record { 0 = b }) slot) ∙ ⊎_elim
+      (λ (t : has_phi f b ≡ true).
+      ⊎_elim (λ (o : has_phi k b ≡ false). absurd (both_ways (has_phi k b) o (phis b ∙ t)))
+      (λ (past : length (sources_of g b) ≤ slot). rw (t, slice_past (sources_of g b) slot past) (r.operands b slot)) none)
+      (λ (o : has_phi f b ≡ false). rw o (r.operands b slot)) (cases_Bool (has_phi f b));
   defining = λ b j x reach a. d.done b j x reach a ∙ ap (before_at func.blocks b j) (sym (defined_entering func.blocks (OfReached g) h k d b));
   no_defining = λ i none. d.rest i none ∙ c.entries (Inst (record { 0 = i })) ∙ r.defs i;
   lasts = λ b. ap (λ (l : List (Option InstNo)). get_or l b None) (d.lasts ∙ c.lasts ∙ same) ∙ lasts b;
@@ -168,8 +171,17 @@ filled_settled func g old new f s k = record {
       s.enters b (phi_gone old new s b o ∙ sym o) ∙ ap (renamed old new) (f.no_entering b (inl u)))
       (λ (t : has_phi new b ≡ true). s.enters b (t ∙ sym (s.none_new b t)) ∙ ap (renamed old new) (f.no_entering b (inr (s.none_new b t))))
       out;
-  no_operand = λ b slot n.
-      ⊎_elim (λ (t : has_phi old b ≡ true). s.cleared b slot (t, n)) (λ (o : has_phi old b ≡ false). s.operands b slot (n ∙ sym o) ∙ ap (renamed old new) (f.no_operand b slot o)) (cases_Bool (has_phi old b));
+  no_operand = λ b slot none.
+      ⊎_elim
+      (λ (n : has_phi new b ≡ false).
+      ⊎_elim (λ (t : has_phi old b ≡ true). s.cleared b slot (t, n)) (λ (o : has_phi old b ≡ false). s.operands b slot (n ∙ sym o) ∙ ap (renamed old new) (f.no_operand b slot (inl o))) (cases_Bool (has_phi old b)))
+      (λ (past : length (sources_of g b) ≤ slot).
+      ⊎_elim
+      (λ (t : has_phi new b ≡ true). s.operands b slot (t ∙ sym (s.none_new b t)) ∙ ap (renamed old new) (f.no_operand b slot (inr past)))
+      (λ (n : has_phi new b ≡ false).
+      ⊎_elim (λ (t : has_phi old b ≡ true). s.cleared b slot (t, n)) (λ (o : has_phi old b ≡ false). s.operands b slot (n ∙ sym o) ∙ ap (renamed old new) (f.no_operand b slot (inl o))) (cases_Bool (has_phi old b)))
+      (cases_Bool (has_phi new b)))
+      none;
   defining = λ b j x r a.
       s.defs x.number ∙ ap (renamed old new) (f.defining b j x r a) ∙ renamed_after old new (before b j) (entering_at old b) ∙ ap (after_last (before b j)) (renamed_entering old new s b);
   no_defining = λ i none. s.defs i ∙ ap (renamed old new) (f.no_defining i none);

@@ -12,13 +12,13 @@ use Rattle.ms_build.specs.Accesses.{event_of, has_phi, enters_at, operand_at, de
 use Rattle.ms_build.specs.Consistent.{IsConsistent}
 use Rattle.ms_build.specs.Filled.{last_of, before_at, HasAccessAt}
 
--- A consistent form of a function: its blocks have their last Defs, phis and entries stand at reached blocks alone, and
--- each instruction of a reached block names the access before it.
+-- A consistent form of a function: its blocks have their last Defs, phis and entries stand at reached blocks alone, slots past
+-- the edges to a block are empty, and each instruction of a reached block names the access before it.
 pub record IsFilled (f : FuncState) (g : List Run) (form : FormState) : Type 0 where
   pub consistent : IsConsistent g form
   pub phis : (b : ℕ) → has_phi form b ≡ true → IsReached g b
   pub no_entering : (b : ℕ) → (IsReached g b → ⊥) ⊎ (has_phi form b ≡ true) → enters_at form b ≡ None
-  pub no_operand : (b slot : ℕ) → has_phi form b ≡ false → operand_at form b slot ≡ None
+  pub no_operand : (b slot : ℕ) → (has_phi form b ≡ false) ⊎ (length (sources_of g b) ≤ slot) → operand_at form b slot ≡ None
   pub defining : (b k : ℕ) (x : Placed) → IsReached g b → HasAccessAt f.blocks b k x → defining_at form x.number ≡ before_at f.blocks b k (entering_at form b)
   pub no_defining : (i : ℕ) → ((b k : ℕ) (x : Placed) → IsReached g b → HasAccessAt f.blocks b k x → x.number ≡ i → ⊥) → defining_at form i ≡ None
   pub lasts : (b : ℕ) → slice_index_or form.lasts b None ≡ last_of f.blocks b

@@ -7,7 +7,8 @@ use Rattle.ms_form.specs.declared.access.User.{User}
 use Rattle.ms_form.specs.declared.access.User.TheVariants.{Inst, Operand, Entering}
 use Rattle.ms_form.specs.Form.{FormState, entry_of, same_user, KeepsPlaces}
 use Rattle.ms_form.specs.Waiting.{with_waiting, times}
-use Rattle.ms_paths.specs.Flow.{Block as Run, IsReached}
+use Rattle.ms_paths.specs.Flow.{Block as Run}
+use Rattle.ms_flow.specs.Flow.{sources_of}
 use Rattle.ms_build.specs.Accesses.{has_phi, operand_at}
 use Rattle.ms_build.specs.Settled.{IsTrivial, slot_count}
 
@@ -73,22 +74,21 @@ pub record IsOut (b : BlockNo) (a : Access) (old new : FormState) : Type 0 where
   pub named : (c : BlockNo) (slot : ℕ) → c.0 ≢ b.0 → entry_of old (Operand c slot) ≡ Some (Phi b) → Waits new c.0
 
 -- some operand of a block is another access than its own phi; into the entry block Entry comes
-abbrev pub HasOther : FormState → BlockNo → Type 0
-HasOther f b = (b.0 ≡ 0) ⊎ ((slot : ℕ) × (slot < slot_count f b.0) × (operand_at f b.0 slot ≢ Some (Phi b)))
+abbrev pub HasOther : List Run → FormState → BlockNo → Type 0
+HasOther g f b = (b.0 ≡ 0) ⊎ ((slot : ℕ) × (slot < length (sources_of g b.0)) × (operand_at f b.0 slot ≢ Some (Phi b)))
 
 -- the phi of a block was trivial and is taken out
 pub record IsTakenOut (g : List Run) (b : BlockNo) (old new : FormState) : Type 0 where
   pub access : Access
-  pub reached : IsReached g b.0
   pub had : has_phi old b.0 ≡ true
-  pub trivial : IsTrivial old b.0 access
+  pub trivial : IsTrivial g old b.0 access
   pub other : access ≢ Phi b
   pub out : IsOut b access old new
 
 -- nothing changed, and the block has no trivial phi
 pub record IsLeft (g : List Run) (b : BlockNo) (old new : FormState) : Type 0 where
   pub same : new ≡ old
-  pub none : (a : Access) → IsReached g b.0 → has_phi old b.0 ≡ true → IsTrivial old b.0 a → ⊥
+  pub none : (a : Access) → has_phi old b.0 ≡ true → IsTrivial g old b.0 a → ⊥
 
 -- the phi of a block is taken out where it is trivial
 abbrev pub IsTried : List Run → BlockNo → FormState → FormState → Type 0

@@ -40,24 +40,24 @@ IsEntered g b old new = IsGivenPhi g b old new ⊎ IsGivenOne g b old new
 abbrev pub IsOrdered : List Run → List (Option ℕ) → Type 0
 IsOrdered g list = (k b : ℕ) → (slice_index_or list k None ≡ Some b → order_of g b ≡ Some k) × (order_of g b ≡ Some k → slice_index_or list k None ≡ Some b)
 
--- what comes over the edge at a slot
-abbrev pub brought_by : FormState → Option Source → Option Access
-brought_by f None = None
-brought_by f (Some e) = leaving_at f e.from
+-- what comes over the edge at a slot, or what there was where there is no edge
+abbrev pub brought_by : FormState → Option Access → Option Source → Option Access
+brought_by f x None = x
+brought_by f x (Some e) = leaving_at f e.from
 
-abbrev pub brought : List Run → FormState → ℕ → ℕ → Option Access
-brought g f b slot = brought_by f (slice_get (sources_of g b) slot)
+abbrev pub brought : List Run → FormState → ℕ → ℕ → Option Access → Option Access
+brought g f b slot x = brought_by f x (slice_get (sources_of g b) slot)
 
 -- the operands of one block are what comes over its edges
 abbrev pub one_filled : List Run → FormState → ℕ → User → Option Access → Option Access
 one_filled g f b (Inst i) x = x
-one_filled g f b (Operand c slot) x = if c.0 == b then brought g f b slot else x
+one_filled g f b (Operand c slot) x = if c.0 == b then brought g f b slot x else x
 one_filled g f b (Entering c) x = x
 
 -- the operands of each block with a phi are what comes over its edges
 abbrev pub all_filled : List Run → FormState → User → Option Access → Option Access
 all_filled g f (Inst i) x = x
-all_filled g f (Operand c slot) x = if has_phi f c.0 then brought g f c.0 slot else x
+all_filled g f (Operand c slot) x = if has_phi f c.0 then brought g f c.0 slot x else x
 all_filled g f (Entering c) x = x
 
 -- for each last Def there is a place

@@ -1,22 +1,25 @@
 -- Forms whose trivial phis are gone, as in the construction of Braun et al. (2013).
 use Rattle.std.specs.Prelude.{◌≡◌, ◌<◌, ◌⊎◌, ℕ, true, false, List, [], length, Option, Some, None, slice_index_or, if◌then◌else◌}
-use Rattle.ms_paths.specs.Flow.{Block as Run, IsReached}
+use Rattle.ms_paths.specs.Flow.{Block as Run}
+use Rattle.ms_flow.specs.Flow.{sources_of}
 use Rattle.ms_form.specs.declared.access.Access.{Access}
 use Rattle.ms_form.specs.declared.access.Access.TheVariants.{Entry, Of, Phi}
 use Rattle.ms_form.specs.Form.{FormState, entering_of}
 use Rattle.ms_build.specs.Accesses.{has_phi, enters_at, operand_at, defining_at}
 
--- how many operands a block has
+-- how many slots for operands a block has, which may be more than the edges that lead to it
 abbrev pub slot_count : FormState → ℕ → ℕ
 slot_count f b = length (slice_index_or f.operands b [])
 
--- The operands of a block are its own phi and this access alone. Into the entry block comes Entry too.
-abbrev pub IsTrivial : FormState → ℕ → Access → Type 0
-IsTrivial f b a = (b ≡ 0 → a ≡ Entry) × ((slot : ℕ) → slot < slot_count f b → (operand_at f b slot ≡ Some a) ⊎ (operand_at f b slot ≡ Some (Phi (record { 0 = b }))))
+-- The operands of a block, one for each edge to it from a reached block, are its own phi and this access alone. Into the entry
+-- block comes Entry too. Of a block that is not reached there are none, so that each access is one.
+abbrev pub IsTrivial : List Run → FormState → ℕ → Access → Type 0
+IsTrivial g f b a = (b ≡ 0 → a ≡ Entry)
+    × ((slot : ℕ) → slot < length (sources_of g b) → (operand_at f b slot ≡ Some a) ⊎ (operand_at f b slot ≡ Some (Phi (record { 0 = b }))))
 
--- no phi of a reached block is trivial
+-- No phi is trivial. So blocks that are not reached have none.
 abbrev pub NoTrivial : List Run → FormState → Type 0
-NoTrivial g f = (b : ℕ) (a : Access) → IsReached g b → has_phi f b ≡ true → IsTrivial f b a → ⊥
+NoTrivial g f = (b : ℕ) (a : Access) → has_phi f b ≡ true → IsTrivial g f b a → ⊥
 
 -- the phi of a block was taken out
 abbrev pub IsRemoved : FormState → FormState → ℕ → Type 0

@@ -1,7 +1,7 @@
 use Rattle.std.proofs.Common.{Bool, false, ◌≡◌, ◌≢◌, ◌<◌, ◌≤◌, inl, inr, ℕ, suc, zero, ◌+◌, ◌-◌, List, [], ◌∷◌, ◌++◌, length, get_or, set, take, drop, map, Option, Some, None, refl, ap, sym, ◌∙◌, arith, length-append, length-set, get_or-set_same, get_or-set_other}
 use Rattle.std.specs.Option.{option_map}
 use Rattle.std.proofs.Math.ListN.{length-replicate}
-use Rattle.std.proofs.Math.Seq.{take-set-lt, map-set_same}
+use Rattle.std.proofs.Math.Seq.{take-set-lt}
 use Rattle.std.proofs.lemmas.List.{get_or_past, get_or-take, get_or-drop, length-take, length-drop, length-map, take-set-le, drop-set-lt, drop-set-add, take-map, drop-map, take-append-le, drop-append-le, ext_get_or, set-set}
 use Rattle.std.proofs.lemmas.Bool.Decides.{eqb_tells, leb_tells}
 use Rattle.ms_ir.specs.declared.names.InstNo.{InstNo}
@@ -258,11 +258,19 @@ places-access Entry f = λ counts insts h. h
 places-access (Phi b) f = λ counts insts h. h
 places-access (Of i) f = places-placed i.0 f
 
+-- Each block has as many slots as before where one operand is set.
+pub slots-set : (rows : List (List (Option Access))) (b slot c : ℕ) (x : Option Access) → length (get_or (set rows b (set (get_or rows b []) slot x)) c []) ≡ length (get_or rows c [])
+slots-set [] b slot c x = refl
+slots-set (row ∷ rows) zero slot zero x = length-set row slot x
+slots-set (row ∷ rows) zero slot (suc c) x = refl
+slots-set (row ∷ rows) (suc b) slot zero x = refl
+slots-set (row ∷ rows) (suc b) slot (suc c) x = slots-set rows b slot c x
+
 places-entry : (u : User) (x : Option Access) (f : FormState) → KeepsPlaces f (entry_set u x f)
 places-entry (Inst i) x f counts insts h = record { blocks = h.blocks; slots = h.slots; numbers = omega (arith, h.numbers, length-set f.defs i.0 x) }
 places-entry (Operand b slot) x f counts insts h = record {
   blocks = h.blocks;
-  slots = map-set_same length f.operands b.0 (set (get_or f.operands b.0 []) slot x) [] (length-set (get_or f.operands b.0 []) slot x) ∙ h.slots;
+  slots = λ c. let n = h.slots c in let same = slots-set f.operands b.0 slot c x in omega arith;
   numbers = h.numbers;
 }
 places-entry (Entering b) x f counts insts h = record { blocks = h.blocks; slots = h.slots; numbers = h.numbers }
@@ -290,9 +298,10 @@ pub places-last : (last : Option InstNo) (f : FormState) → KeepsPlaces f (last
 places-last None f = λ counts insts h. h
 places-last (Some i) f = places-placed i.0 f
 
-slots-empty : (counts : List ℕ) → map length (map empty_slots counts) ≡ counts
-slots-empty [] = refl
-slots-empty (n ∷ counts) = rw (length-replicate {A = Option Access} n None, slots-empty counts) refl
+slots-empty : (counts : List ℕ) (b : ℕ) → get_or counts b 0 ≤ length (get_or (map empty_slots counts) b [])
+slots-empty [] b = omega arith
+slots-empty (n ∷ counts) zero = omega (arith, length-replicate {A = Option Access} n None)
+slots-empty (n ∷ counts) (suc b) = slots-empty counts b
 
 pub places-empty : (counts : List ℕ) (insts : ℕ) → HasPlaces counts insts (empty_form counts insts)
 places-empty counts insts = record {

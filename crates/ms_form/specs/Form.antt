@@ -166,10 +166,10 @@ pub record IsTable (f : FormState) : Type 0 where
   pub few_blocks : length f.phis ≤ 2 ^ 32
   pub few_insts : length f.defs ≤ 2 ^ 32
 
--- So many blocks with so many slots each, and so many instructions at least. No change of an entry takes a place away.
+-- So many blocks, each with so many slots at least, and so many instructions at least. No change of an entry takes a place away.
 pub record HasPlaces (counts : List ℕ) (insts : ℕ) (f : FormState) : Type 0 where
   pub blocks : length f.phis ≡ length counts
-  pub slots : map length f.operands ≡ counts
+  pub slots : (b : ℕ) → slice_index_or counts b 0 ≤ length (slice_index_or f.operands b [])
   pub numbers : insts ≤ length f.defs
 
 -- each place of one form is one of another

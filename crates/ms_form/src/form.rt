@@ -73,6 +73,16 @@ impl Form {
         self.entry(User::Operand(b, in_slot))
     }
 
+    /// How many slots for operands a block has: one per predecessor entry, or more; none where there is no such block.
+    pub fn slots(&self, b: BlockNo) -> u32
+        ensures { result ≡ length (slice_index_or self.now.operands b.0 []) }
+    {
+        if b.0 as usize >= self.rooms.len() {
+            return 0;
+        }
+        self.rooms[b.0 as usize].slots
+    }
+
     /// The access at the start of a block: its phi where it has one, else the one that is stored.
     pub fn entering(&self, b: BlockNo) -> Option<Access>
         ensures { result ≡ entering_of self.now b }

@@ -16,7 +16,7 @@ pub unlink-requires : goal.unlink-requires
 unlink-requires c =
     let same : slot_count c.loop-slot.form c.args.b.0 ≡ slot_count c.args.form.now c.args.b.0 = c.loop-slot.invariant.0.slots c.args.b.0 in
     let lt = c.loop-slot-test.true in
-    let whole = c.requires in
+    let whole = c.slots-slot-end.ensures in
     omega arith
 
 pub loop-slot-preserved : goal.loop-slot-preserved
@@ -33,6 +33,6 @@ returns-clause-changed c =
     let f = c.args.form.now in
     let k = c.loop-slot.slot in
     let end = c.loop-slot-test.false in
-    let whole = c.requires in
+    let whole = c.slots-slot-end.ensures in
     changed_both (emptied_below c.args.b k) kept (emptied c.args.b) f c.loop-slot.form c.loop-slot.form
     c.loop-slot.invariant.0 (changed_none c.loop-slot.form) (λ u. emptied_all f c.args.b k u (omega arith))

@@ -5,7 +5,7 @@ use Rattle.ms_form.specs.declared.access.Access.TheVariants.{Phi}
 use Rattle.ms_form.specs.Form.{HasList}
 use Rattle.ms_build.specs.Accesses.{operand_at}
 use Rattle.ms_build.proofs.Entries.{named_list}
-use Rattle.ms_build.proofs.Only.{IsOnly, only_entry, only_same, only_first, only_again, only_two, only_empty, only_result}
+use Rattle.ms_build.proofs.Only.{IsOnly, only_entry, only_same, only_first, only_again, only_two, only_empty, only_result, none_comes}
 use Rattle.ms_build.proofs.settling.only_other.Goals as goal
 use Rattle.ms_build.proofs.settling.only_other.Goals.{then-not-same_access+in-None, then-not-same_access+in-Some+else-not-same_access-2, else-not-same_access, then-b-eq0, else-b-eq0}
 
@@ -41,18 +41,25 @@ returns-then-not-same_access-2 c =
     let k = c.loop-slot.slot in
     let here : operand_at f b.0 k ≡ Some c.in_ok-operand.operand = sym c.in_ok-operand.ensures in
     let lt = c.loop-slot-test.true in
-    let all = c.requires.slots in
-    only_two f b k c.in-Some.a c.in_ok-operand.operand (subst (IsOnly f b k) c.in-Some.is c.loop-slot.invariant) here
+    let all = c.pred_count-edges.ensures in
+    only_two c.args.flow.now.graph f b k c.in-Some.a c.in_ok-operand.operand (subst (IsOnly f b k) c.in-Some.is c.loop-slot.invariant) here
     (λ i. both_ways _ c.if-not-same_access.true (c.same_access.ensures.1 i)) (λ i. both_ways _ c.if-not-same_access-2.true (c.same_access-in-Some.ensures.1 i)) (omega arith)
 
 pub returns-in_err-operand : goal.returns-in_err-operand
 returns-in_err-operand c =
     let lt = c.loop-slot-test.true in
-    let all = c.requires.slots in
-    rw c.from_residual.ensures (only_empty c.args.form.now c.args.b c.loop-slot.slot (sym c.in_err-operand.ensures) (omega arith))
+    let all = c.pred_count-edges.ensures in
+    rw c.from_residual.ensures (only_empty c.args.flow.now.graph c.args.form.now c.args.b c.loop-slot.slot (sym c.in_err-operand.ensures) (omega arith))
 
 pub returns : goal.returns
 returns c =
     let end = c.loop-slot-test.false in
-    let all = c.requires.slots in
-    only_result c.args.form.now c.args.b c.loop-slot.slot c.loop-slot.other c.loop-slot.invariant (omega arith) c.requires.other
+    let all = c.pred_count-edges.ensures in
+    let some = c.if-edges-eq0.false in
+    only_result c.args.flow.now.graph c.args.form.now c.args.b c.loop-slot.slot c.loop-slot.other c.loop-slot.invariant (omega arith) (c.requires.other (omega arith))
+
+pub returns-then-edges-eq0 : goal.returns-then-edges-eq0
+returns-then-edges-eq0 c =
+    let none = c.if-edges-eq0.true in
+    let all = c.pred_count-edges.ensures in
+    none_comes c.args.flow.now.graph c.args.form.now c.args.b (omega arith)

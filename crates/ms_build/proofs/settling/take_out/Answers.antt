@@ -6,9 +6,6 @@ use Rattle.ms_build.proofs.Entries.{changed_list, has_list-phis}
 use Rattle.ms_build.proofs.Out.{out_of}
 use Rattle.ms_build.proofs.settling.take_out.Goals as goal
 
-pub empty_operands-requires : goal.empty_operands-requires
-empty_operands-requires c = rw c.set_phi.ensures.phi c.requires.slots
-
 pub replace_phi-requires-clause-block : goal.replace_phi-requires-clause-block
 replace_phi-requires-clause-block c = rw (c.empty_operands.ensures.changed.phis, c.set_phi.ensures.phi, length-set c.args.form.now.phis c.args.b.0 false) c.requires.block
 
