@@ -56,10 +56,8 @@ returns-clause-form c =
     let f = c.settle.new.form in
     let closed = rw (← c.requires.graph) at (c.same_paths.ensures.closed func.blocks c.requires.closed) in
     let reducible = (c.same_paths.ensures.reducible func.blocks).0 (subst IsReducible c.requires.graph c.requires.reducible) in
-    let p = c.settle.ensures.places (pred_counts flow) c.args.i.0 (c.put_in.ensures.places (pred_counts flow) c.args.i.0 (c.make_room.ensures.places (pred_counts flow) c.args.i.0 c.requires.places)) in
-    let places : HasPlaces (pred_counts flow) 0 f = record { blocks = p.blocks; slots = p.slots; numbers = omega arith } in
     form_of_function func flow f c.requires.graph c.numbered.ensures.one_place c.requires.closed reducible (c.same_paths.ensures.edges func.blocks) (c.same_paths.ensures.reached func.blocks)
-    (c.order_told.ensures.reached flow.graph closed) (c.sources_told.ensures.edges flow.graph closed) (c.sources_told.ensures.all flow.graph closed) places
+    (c.order_told.ensures.reached flow.graph closed) (c.sources_told.ensures.edges flow.graph closed) (c.sources_told.ensures.all flow.graph closed)
     (filled_settled func flow.graph c.put_in.new.form f c.put_in.ensures.filled c.settle.ensures.settled c.settle.ensures.consistent) c.settle.ensures.none_trivial
     c.whole_form.ensures c.region_form.ensures.accesses
 

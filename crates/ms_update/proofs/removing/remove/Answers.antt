@@ -35,10 +35,8 @@ returns-clause-form c =
     let closed = rw (← c.requires.graph) at (c.same_paths.ensures.closed func.blocks c.requires.closed) in
     let same = c.requires.graph ∙ sym (edges_without i func.blocks) in
     let reducible = (c.same_paths.ensures.reducible (blocks_without i func.blocks)).0 (subst IsReducible same c.requires.reducible) in
-    let p = c.settle.ensures.places (pred_counts flow) func.made (c.take_out.ensures.places (pred_counts flow) func.made c.requires.places) in
-    let places : HasPlaces (pred_counts flow) 0 f = record { blocks = p.blocks; slots = p.slots; numbers = omega arith } in
     form_of_function (func_without i func) flow f same (one_without i func.blocks c.numbered.ensures.one_place) (closed_without i func.blocks c.requires.closed) reducible (c.same_paths.ensures.edges (blocks_without i func.blocks)) (c.same_paths.ensures.reached (blocks_without i func.blocks))
-    (c.order_told.ensures.reached flow.graph closed) (c.sources_told.ensures.edges flow.graph closed) (c.sources_told.ensures.all flow.graph closed) places
+    (c.order_told.ensures.reached flow.graph closed) (c.sources_told.ensures.edges flow.graph closed) (c.sources_told.ensures.all flow.graph closed)
     (filled_settled (func_without i func) flow.graph c.take_out.new.form f c.take_out.ensures.filled c.settle.ensures.settled c.settle.ensures.consistent) c.settle.ensures.none_trivial
     c.whole_form.ensures c.region_form.ensures.accesses
 
