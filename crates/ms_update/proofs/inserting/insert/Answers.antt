@@ -2,7 +2,6 @@ use Rattle.std.proofs.Common.{◌≡◌, ◌∙◌, ℕ, ap, sym, subst, arith, 
 use Rattle.std.specs.Prelude.{Bool, slice_index_or, false}
 use Rattle.ms_paths.specs.Flow.{Block as Run, IsReducible}
 use Rattle.ms_flow.specs.Table.{edges_of}
-use Rattle.ms_form.specs.Form.{HasPlaces}
 use Rattle.ms_form.specs.Counts.{pred_counts}
 use Rattle.ms_build.specs.Accesses.{has_phi}
 use Rattle.ms_build.proofs.Answered.{form_of_function}

@@ -1,6 +1,5 @@
 use Rattle.std.proofs.Common.{◌∙◌, sym, subst, arith}
 use Rattle.ms_paths.specs.Flow.{IsReducible}
-use Rattle.ms_form.specs.Form.{HasPlaces}
 use Rattle.ms_form.specs.Counts.{pred_counts}
 use Rattle.ms_build.proofs.Answered.{form_of_function}
 use Rattle.ms_ir.proofs.FuncLemmas.{at_and_nowhere}
