@@ -1,7 +1,7 @@
 -- Stores that are dead, and stores that are not, in small functions.
-use Rattle.std.proofs.Common.{◌≡◌, ◌∙◌, ◌<◌, ◌⊎◌, ℕ, zero, suc, ◌+◌, ℤ, pos, ◌+ℤ◌, [], Some, None, refl, sym, ap, subst, inl, inr, true, false, arith}
-use Rattle.std.specs.Prelude.{◌≢◌, Contains, slice_get, ◌≤ℤ◌, ◌<ℤ◌}
-use Rattle.std.proofs.lemmas.Bool.{true≢false}
+use Rattle.std.proofs.Common.{◌≡◌, ◌∙◌, ◌<◌, ◌⊎◌, ℕ, zero, suc, ◌+◌, ℤ, pos, ◌+ℤ◌, [], ◌∷◌, Some, None, refl, sym, ap, subst, inl, inr, true, false, arith}
+use Rattle.std.specs.Prelude.{◌≢◌, ◌==◌, Contains, IsTrue, slice_get, ◌≤ℤ◌, ◌<ℤ◌}
+use Rattle.std.proofs.lemmas.Bool.{eqb-true, true≢false}
 use Rattle.std.proofs.lemmas.Int.{ints}
 use Rattle.ms_paths.specs.Flow.{HasEdge}
 use Rattle.ms_ir.specs.Func.{Placed, FuncState, IsAt, insts_at}
@@ -17,7 +17,8 @@ use Rattle.ms_meaning.specs.Memory.{HoldsByte}
 use Rattle.ms_meaning.specs.Samples.{local, param}
 use Rattle.ms_ir.specs.declared.names.Ty.TheVariants.{Ptr}
 use Rattle.ms_live.specs.Live.{IsLeft, IsLive}
-use Rattle.ms_live.specs.Dead.{IsDead}
+use Rattle.ms_live.specs.Dead.{IsDead, AreDead}
+use Rattle.ms_live.specs.Columns.{HasColumns, IsBelow}
 use Rattle.ms_live.specs.Samples.{first_local, stores_four, makes_four, loads_one, copies_no_byte, stores_twice, loads_back, stores_to_own, copies_nothing}
 use Rattle.ms_live.proofs.Effects.{written_once}
 use Rattle.ms_live.proofs.Backwards.{live_read, live_left, live_at, live_at_end}
@@ -46,13 +47,22 @@ argument_fixed (m, made, moves, cycle) = cc
 argument_span : (len : ℕ) → IsSpan stores_twice (local 0) len (Span first_local (pos 0) len)
 argument_span len = (first_local, refl, first_local, pos 0, (zero, (refl, refl, inl refl)), refl)
 
+each_stores : (b j : ℕ) (x : Placed) → slice_get (insts_at stores_twice.blocks b) j ≡ Some x → (i : ℕ) × (i < 2) × (stores_four i ≡ x)
+each_stores zero zero x e = (0, omega arith, cc)
+each_stores zero (suc zero) x e = (1, omega arith, cc)
+each_stores zero (suc (suc j)) x e = cc
+each_stores (suc b) j x e = cc
+
+reads_none : (b j : ℕ) (x : Placed) (u : Reach) → slice_get (insts_at stores_twice.blocks b) j ≡ Some x → IsRead stores_twice x.inst u → ⊥
+reads_none b j x u e read = let s = each_stores b j x e in subst (λ (z : Placed). IsRead stores_twice z.inst u) (sym s.2) read
+
+writes_four : (b j : ℕ) (x : Placed) (u : Reach) → slice_get (insts_at stores_twice.blocks b) j ≡ Some x → IsWritten stores_twice x.inst u → u ≡ Span first_local (pos 0) 4
+writes_four b j x u e written =
+    let s = each_stores b j x e in
+    written_once stores_twice (stores_four s.0).inst u (Span first_local (pos 0) 4) (subst (λ (z : Placed). IsWritten stores_twice z.inst u) (sym s.2) written) (argument_span 4)
+
 nothing_read : (i : ℕ) (loc : Loc) → MayRead stores_twice i loc → ⊥
-nothing_read i loc (b, place, y, at, u, v, read, is, meet) = none b place y u at.found read where
-  none : (b place : ℕ) (y : Placed) (u : Reach) → slice_get (insts_at stores_twice.blocks b) place ≡ Some y → IsRead stores_twice y.inst u → ⊥
-  none zero zero y u e read = let same : stores_four 0 ≡ y = cc in subst (λ (z : Placed). IsRead stores_twice z.inst u) (sym same) read
-  none zero (suc zero) y u e read = let same : stores_four 1 ≡ y = cc in subst (λ (z : Placed). IsRead stores_twice z.inst u) (sym same) read
-  none zero (suc (suc n)) y u e read = cc
-  none (suc b) n y u e read = cc
+nothing_read i loc (b, place, y, at, u, v, read, is, meet) = reads_none b place y u at.found read
 
 pub first_is_dead : IsDead stores_twice 0
 first_is_dead = record {
@@ -83,6 +93,41 @@ second_is_left =
       only zero (suc (suc n)) y at = let e = at.found in cc
       only (suc c) n y at = let e = at.found in cc
 
+-- so the first is dead, and nothing else
+pub first_alone : AreDead stores_twice (λ i. i == 0)
+first_alone i = (
+  (λ t. subst (λ n. IsDead stores_twice n) (sym (eqb-true i 0 t)) first_is_dead),
+  (λ h.
+      let s = each_stores h.block h.place h.inst h.there.found in
+      let number : s.0 ≡ i = ap (λ (z : Placed). z.number) s.2 ∙ h.there.numbered in
+      by_number i (subst (λ n. n < 2) number s.1) h),
+) where
+  by_number : (i : ℕ) → i < 2 → IsDead stores_twice i → IsTrue (i == 0)
+  by_number zero lt h = refl
+  by_number (suc zero) lt h = absurd (second_is_left h)
+  by_number (suc (suc i)) lt h = absurd (omega arith)
+
+pub begin_and_end : HasColumns stores_twice first_local (pos 0 ∷ pos 4 ∷ [])
+begin_and_end = record {
+  reads = λ b j x e from len read. absurd (reads_none b j x (Span first_local from len) e read);
+  writes = λ b j x e from len written.
+      let same = writes_four b j x (Span first_local from len) e written in
+      let start : pos 0 ≡ from = cc in
+      (0, omega arith, start);
+  ends = λ b j x e from len written.
+      let same = writes_four b j x (Span first_local from len) e written in
+      let start : pos 0 ≡ from = cc in
+      let size : 4 ≡ len = cc in
+      (1, omega arith, ap (λ z. z +ℤ pos 4) start ∙ ap (λ n. from +ℤ pos n) size);
+}
+
+pub below_three : IsBelow (pos 0 ∷ pos 4 ∷ []) (pos 0) (pos 3)
+below_three = record { below = omega (arith, ints); nearest = λ d c low high. not_between d c low high } where
+  not_between : (d : ℤ) → Contains (pos 0 ∷ pos 4 ∷ []) d → pos 0 <ℤ d → d ≤ℤ pos 3 → ⊥
+  not_between d (zero, lt, is) low high = let e : pos 0 ≡ d = is in absurd (omega (arith, ints))
+  not_between d (suc zero, lt, is) low high = let e : pos 4 ≡ d = is in absurd (omega (arith, ints))
+  not_between d (suc (suc i), lt, is) low high = let l : suc (suc i) < 2 = lt in absurd (omega arith)
+
 -- ---- a store to an alloca of which a byte is loaded
 
 loaded_fixed : IsFixed loads_back first_local
@@ -95,9 +140,17 @@ loaded_span len = (first_local, refl, first_local, pos 0, (zero, (refl, refl, in
 
 pub loaded_is_live : IsLive loads_back first_local (pos 0) 0 2
 loaded_is_live =
-    live_read loads_back first_local (pos 0) 0 2 loads_one refl
-    (0, 2, loads_one, record { block = omega arith; found = refl; numbered = refl }, Span first_local (pos 0) 1, Span first_local (pos 0) 1, loaded_span 1, refl,
-    inl ((refl, loaded_fixed), (pos 0, (omega (arith, ints), omega (arith, ints)), (omega (arith, ints), omega (arith, ints)))))
+    live_read loads_back first_local (pos 0) 0 2 loads_one refl (
+      0,
+      2,
+      loads_one,
+      record { block = omega arith; found = refl; numbered = refl },
+      Span first_local (pos 0) 1,
+      Span first_local (pos 0) 1,
+      loaded_span 1,
+      refl,
+      inl ((refl, loaded_fixed), (pos 0, (omega (arith, ints), omega (arith, ints)), (omega (arith, ints), omega (arith, ints)))),
+    )
 
 pub loaded_is_stored : IsDead loads_back 1 → ⊥
 loaded_is_stored = is_wanted loads_back 1 0 1 (stores_four 1) first_local (pos 0) (pos 0) 4 only (loaded_span 4) (omega (arith, ints), omega (arith, ints)) loaded_is_live where
