@@ -34,7 +34,7 @@ counts_at g E S b k p = counts_after E S (take k (block_at g b).events) (entered
 
 -- A block of the graph.
 
-events_at : (blocks : List Block) (b : ℕ) → (block_at (graph_of blocks) b).events ≡ numbers (insts_at blocks b)
+pub events_at : (blocks : List Block) (b : ℕ) → (block_at (graph_of blocks) b).events ≡ numbers (insts_at blocks b)
 events_at [] b = refl
 events_at (x ∷ blocks) zero = refl
 events_at (x ∷ blocks) (suc b) = events_at blocks b

@@ -50,7 +50,9 @@ operated Mul g m a b = arithmetic g m (pos a *ℤ pos b) (signed m a *ℤ signed
 operated And g m a b = Some (bit_and a b)
 operated Or g m a b = unless (g.disjoint && not (bit_and a b == 0)) (bit_or a b)
 operated Xor g m a b = Some (bit_xor a b)
-operated op g m a b = if nat_le m b then None else shifted op g m a b
+operated Shl g m a b = if nat_le m b then None else shifted Shl g m a b
+operated Lshr g m a b = if nat_le m b then None else shifted Lshr g m a b
+operated Ashr g m a b = if nat_le m b then None else shifted Ashr g m a b
 
 -- whether a predicate holds of two numbers of m bits
 abbrev pub holds : Pred → ℕ → ℕ → ℕ → Bool

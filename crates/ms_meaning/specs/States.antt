@@ -1,5 +1,5 @@
 -- What a run begins with, and what it is at a moment.
-use Rattle.std.specs.Prelude.{◌≡◌, ◌<◌, ◌≤ℤ◌, ◌<ℤ◌, ◌⊎◌, ◌^◌, ◌==◌, ℕ, ℤ, pos, neg_ℤ, Bool, false, true, List, [], length, map, Option, Some, None, slice_get, Contains, if◌then◌else◌}
+use Rattle.std.specs.Prelude.{◌≡◌, ◌<◌, ◌⊎◌, ◌&&◌, ◌^◌, ◌==◌, ℕ, ℤ, pos, neg_ℤ, int_le, int_lt, Bool, false, true, List, [], length, map, Option, Some, None, slice_get, Contains, if◌then◌else◌}
 use Rattle.ms_ir.specs.declared.names.Ty.{Ty}
 use Rattle.ms_ir.specs.declared.names.Param.{Param}
 use Rattle.ms_ir.specs.declared.names.FuncNo.{FuncNo}
@@ -79,8 +79,8 @@ begun input = record {
 }
 
 -- offsets that a pointer can have
-abbrev pub IsOffset : ℤ → Type 0
-IsOffset at = (neg_ℤ (pos (2 ^ 63)) ≤ℤ at) × (at <ℤ pos (2 ^ 63))
+abbrev pub is_offset : ℤ → Bool
+is_offset at = int_le (neg_ℤ (pos (2 ^ 63))) at && int_lt at (pos (2 ^ 63))
 
 abbrev pub IsNumberOf : Ty → ℕ → Type 0
 IsNumberOf ty n = (is_integer ty ≡ true) × (n < 2 ^ bits ty)
@@ -88,7 +88,7 @@ IsNumberOf ty n = (is_integer ty ≡ true) × (n < 2 ^ bits ty)
 -- the value is a number of its type, or a pointer into one of so many objects
 abbrev pub IsProper : ℕ → Value → Type 0
 IsProper outer (Number ty n) = IsNumberOf ty n
-IsProper outer (Pointer o at) = (o < outer) × IsOffset at
+IsProper outer (Pointer o at) = (o < outer) × (is_offset at ≡ true)
 
 abbrev pub IsByte : Byte → Type 0
 IsByte Unset = Unit {0}

@@ -1,10 +1,10 @@
 -- What a run did up to a moment: which instructions it ran and which blocks it entered, and what a step reads and writes.
 use Rattle.std.specs.Prelude.{◌≡◌, ◌<◌, ◌≤◌, ℕ, zero, suc, ℤ, pos, Bool, true, false, List, [], Option, Some, None, slice_get, max, length}
-use Rattle.ms_paths.specs.Flow.{Event, Of, Phi, Entry}
+use Rattle.ms_paths.specs.Flow.{Event, Of, Phi as LastPhi, Entry}
 use Rattle.ms_ir.specs.declared.names.Ty.TheVariants.{Ptr}
 use Rattle.ms_ir.specs.declared.inst.Val.{Val}
 use Rattle.ms_ir.specs.declared.inst.Inst.{Inst}
-use Rattle.ms_ir.specs.declared.inst.Inst.TheVariants.{Load, Copy, Call}
+use Rattle.ms_ir.specs.declared.inst.Inst.TheVariants.{Alloca, Gep, Load, Store, Copy, Call, Bin, Cmp, Select, Cast, Phi}
 use Rattle.ms_ir.specs.Func.{Placed, FuncState, insts_at}
 use Rattle.ms_meaning.specs.Values.{Value, Pointer, size_of}
 use Rattle.ms_meaning.specs.Memory.{Written, HoldsByte, object_at}
@@ -34,8 +34,8 @@ abbrev pub Occurs : FuncState → Input → Event → ℕ → Type 0
 Occurs f input Entry n = n ≡ 0
 Occurs f input (Of i) zero = ⊥
 Occurs f input (Of i) (suc n) = (x : Placed) × Executes f input n x × (x.number ≡ i)
-Occurs f input (Phi b) zero = b ≡ 0
-Occurs f input (Phi b) (suc n) = Enters f input n b
+Occurs f input (LastPhi b) zero = b ≡ 0
+Occurs f input (LastPhi b) (suc n) = Enters f input n b
 
 -- m is the last moment up to n at which it takes place
 pub record OccursLast (f : FuncState) (input : Input) (e : Event) (m n : ℕ) : Type 0 where
@@ -79,4 +79,11 @@ ReadsByte s (Load ty ptr tail) o k = HoldsByteAt s ptr (size_of ty) o k
 ReadsByte s (Copy to from len head tail) o k = HoldsByteAt s from.val len o k
 ReadsByte s (Call callee ret args effects head tail) o k =
     (values : List Value) × (values_of s.locals args ≡ Some values) × (may_read_object s effects args values o ≡ true) × HoldsByte (pos 0) (length (object_at s.objects o)) k
-ReadsByte s _ o k = ⊥
+ReadsByte s (Alloca size head tail) o k = ⊥
+ReadsByte s (Gep base offset head index tail) o k = ⊥
+ReadsByte s (Store ty val ptr tail) o k = ⊥
+ReadsByte s (Bin op flags ty a b tail) o k = ⊥
+ReadsByte s (Cmp pred flags ty a b tail) o k = ⊥
+ReadsByte s (Select cond ty a b tail) o k = ⊥
+ReadsByte s (Cast op flags from a to tail) o k = ⊥
+ReadsByte s (Phi ty entries tail) o k = ⊥
