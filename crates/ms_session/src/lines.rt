@@ -70,32 +70,25 @@ fn use_line(alloc: Global, numbers: &Numbers, before: Access) -> Result<Text, No
 /// The line of an instruction, if it names an access.
 pub fn inst_line(
     alloc: Global,
-    func: &Func,
-    flow: &Flow,
-    form: &Form,
-    alias: &Alias,
+    of: &Pointed,
     numbers: &Numbers,
     i: InstNo,
 ) -> Result<Option<Text>, NoMemory>
-    requires graph { flow.now.graph ≡ edges_of func.now.blocks }
-    requires closed { IsClosed (graph_of func.now.blocks) }
-    requires reducible { IsReducible flow.now.graph }
-    requires form { IsFormOf func.now form.now }
-    requires alias { IsAliasOf func.now alias.now }
-    ensures { IfOk result (λ line. (b place : ℕ) (x : Placed) → IsAt func.now.blocks i.0 b place x →
-        IsShownLine func.now numbers.now.all b place x (defining_at form.now i.0) (kind_of_inst x.inst) (line_text line)) }
+    requires { IsPointed of.now.func.now of.now.flow.now.graph of.now.form.now of.now.alias.now }
+    ensures { IfOk result (λ line. (b place : ℕ) (x : Placed) → IsAt of.now.func.now.blocks i.0 b place x →
+        IsShownLine of.now.func.now numbers.now.all b place x (defining_at of.now.form.now i.0) (kind_of_inst x.inst) (line_text line)) }
 {
-    func.numbered();
+    of.func.numbered();
     ms_flow::same_paths();
     ms_flow::order_told();
-    let last = match form.defining(i) {
+    let last = match of.form.defining(i) {
         Some(last) => last,
         None => return Ok(None),
     };
-    match func.kind(i) {
+    match of.func.kind(i) {
         Some(Kind::Def) => Ok(Some(def_line(alloc, numbers, i, last)?)),
         Some(Kind::Reads) => {
-            let clobber = named_by_use(alloc, func, flow, form, alias, i)?;
+            let clobber = named_by_use(alloc, of, i)?;
             Ok(Some(use_line(alloc, numbers, clobber)?))
         }
         Some(Kind::Neither) => Ok(None),
