@@ -28,7 +28,8 @@ use Rattle.ms_climb.specs.Chains.{or_entry, before_of}
 use Rattle.ms_climb.specs.Walk.{brought_of}
 use Rattle.ms_build.proofs.Define.{OnePlaced}
 use Rattle.ms_build.proofs.Events.{event_at, events_at, take-numbers, numbered_at, def_told, event_after, take_found}
-use Rattle.ms_climb.proofs.Events.{event_of-entry, length-numbers, number_at, in_take, one_inst, after_phi, entered_phi, last_phi, reached_below, length-graph_of}
+use Rattle.ms_climb.proofs.Events.{event_of-entry, length-numbers, number_at, in_take, one_inst, after_phi, entered_phi, last_phi, reached_below}
+use Rattle.ms_flow.proofs.Tables.{length-graph_of}
 
 -- the laws, as the functions below state them
 abbrev pub LiesLaw : Type 0

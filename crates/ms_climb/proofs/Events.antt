@@ -4,7 +4,7 @@ use Rattle.std.specs.Prelude.{slice_get, Contains}
 use Rattle.std.proofs.lemmas.Bool.{cases_Bool}
 use Rattle.ms_paths.specs.Flow.{Block as Run, block_at, Event, Of as LastOf, Phi as LastPhi, after, entered, last_event, IsPath, IsClosed}
 use Rattle.ms_ir.specs.Inst.{kind_of_inst}
-use Rattle.ms_ir.specs.Graph.{numbers, graph_of, is_def, defs_of}
+use Rattle.ms_ir.specs.Graph.{numbers, is_def, defs_of}
 use Rattle.ms_ir.specs.declared.inst.Inst.{Inst}
 use Rattle.ms_ir.specs.declared.inst.Kind.{Kind}
 use Rattle.ms_ir.specs.Func.{Placed, Block, IsAt, IsNowhere, insts_at}
@@ -84,7 +84,3 @@ last_phi g E S (b ∷ p) c h = entered_phi S b (last_event g E S p) c (last_phi 
 pub reached_below : (g : List Run) → IsClosed g → (b : ℕ) (p : List ℕ) → IsPath g b p → b < length g
 reached_below g closed b [] path = let h = closed.has_entry in omega arith
 reached_below g closed b (a ∷ p) path = closed.edges_in a b path.0
-
-pub length-graph_of : (blocks : List Block) → length (graph_of blocks) ≡ length blocks
-length-graph_of [] = refl
-length-graph_of (x ∷ blocks) = let r = length-graph_of blocks in omega arith

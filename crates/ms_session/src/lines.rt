@@ -1,16 +1,13 @@
 // The lines of annotations.
 ghost use Rattle.std.specs.Prelude.{◌≡◌, ◌<◌, ◌++◌, [], ℕ, length, drop, decimal, Some, slice_index_or, IfOk, IfSome, MatchOption, OnOk};
-ghost use Rattle.ms_paths.specs.Flow.{IsReached, IsClosed, IsReducible};
+ghost use Rattle.ms_paths.specs.Flow.{IsReached};
 ghost use Rattle.ms_ir.specs.declared.names.Name.TheVariants.{Absent};
 ghost use Rattle.ms_ir.specs.Func.{Placed, IsAt, IsNowhere};
-ghost use Rattle.ms_ir.specs.Graph.{graph_of};
 ghost use Rattle.ms_ir.specs.Inst.{kind_of_inst};
 ghost use Rattle.ms_ir.specs.declared.inst.Kind.TheVariants.{Def, Reads};
 ghost use Rattle.ms_flow.specs.Flow.{sources_of};
-ghost use Rattle.ms_flow.specs.Table.{edges_of};
-ghost use Rattle.ms_build.specs.Built.{IsFormOf};
-ghost use Rattle.ms_alias.specs.Tables.{IsAliasOf};
 ghost use Rattle.ms_build.specs.Accesses.{event_of, operand_at, defining_at};
+ghost use Rattle.ms_walk.specs.Pointed.{IsPointed};
 ghost use Rattle.ms_print.specs.Text.{ended};
 ghost use Rattle.ms_session.specs.Annotated.{access_text, note_of, block_in_entry, with_commas};
 ghost use Rattle.ms_session.specs.Shown.{line_text, IsShownLine, operand_text, operand_texts, comma_text, members_text, phi_text, shown_phi};
@@ -18,10 +15,10 @@ ghost use Rattle.ms_session.specs.Shown.{line_text, IsShownLine, operand_text, o
 use crate::numbers::{Numbers, is_reached};
 use crate::uses::named_by_use;
 use itoa::Buffer;
-use ms_alias::Alias;
 use ms_flow::Flow;
 use ms_form::{Access, Form};
-use ms_ir::{BlockNo, Func, InstNo, Kind, Name, NoMemory, Steps, Text};
+use ms_ir::{BlockNo, InstNo, Kind, Name, NoMemory, Steps, Text};
+use ms_walk::Pointed;
 use std::alloc::Global;
 
 fn push_number(out: &mut Vec<u8>, n: usize) -> Result<(), NoMemory>

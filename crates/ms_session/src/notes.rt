@@ -1,24 +1,20 @@
 // The annotations of a function.
 ghost use Rattle.std.specs.Prelude.{◌≡◌, ◌<◌, ◌≤◌, [], ℕ, length, Some, slice_get, IfOk, OnOk};
-ghost use Rattle.ms_paths.specs.Flow.{IsClosed, IsReducible};
-ghost use Rattle.ms_ir.specs.Graph.{graph_of};
-ghost use Rattle.ms_alias.specs.Tables.{IsAliasOf};
 ghost use Rattle.ms_ir.specs.Inst.{kind_of_inst};
 ghost use Rattle.ms_ir.specs.Func.{Placed, insts_at};
-ghost use Rattle.ms_flow.specs.Table.{edges_of};
 ghost use Rattle.ms_build.specs.Accesses.{defining_at};
-ghost use Rattle.ms_build.specs.Built.{IsFormOf};
 ghost use Rattle.ms_print.specs.Text.{note_at};
+ghost use Rattle.ms_walk.specs.Pointed.{IsPointed};
 ghost use Rattle.ms_session.specs.Annotated.{IsAnnotated};
 ghost use Rattle.ms_session.specs.Shown.{IsShownLine, shown_phi, with_line};
 
 use crate::lines::{inst_line, phi_line};
 use crate::numbers::{Numbers, number_all};
-use ms_alias::Alias;
 use ms_flow::Flow;
 use ms_form::Form;
-use ms_ir::{BlockNo, Func, InstNo, Name, Names, NoMemory, Text};
+use ms_ir::{BlockNo, InstNo, Name, Names, NoMemory, Text};
 use ms_print::{Note, NoteList, Notes, block_labels, print_func};
+use ms_walk::Pointed;
 use std::alloc::Global;
 
 // A line behind the others, if there is one.
