@@ -24,6 +24,7 @@ use Rattle.ms_grammar.proofs.Printing.{text_of_append}
 use Rattle.ms_reread.proofs.Places.{Stands, Run, follow_map, whole_tokens}
 use Rattle.ms_reread.proofs.Moves.{Old}
 use Rattle.ms_reread.proofs.Pieces.{Said, Back}
+use Rattle.ms_reread.proofs.Reread.{fits_kept}
 use Rattle.ms_reread.proofs.Lines.{line_back}
 
 -- bytes without a line feed
@@ -149,23 +150,6 @@ printed_by bytes w l says back fits =
       };
       quiet = quiet_by (printed l) (λ k less. run_quiet (printed l) 0 (length (printed l)) again.tokens again.follow k (omega arith) less);
     }
-
--- parameters without names
-each_bare : (ps : List Param) → Each IsParam (map without_name ps)
-each_bare [] = tt
-each_bare (p ∷ ps) = (tt, each_bare ps)
-
-fits_kept : (scale : Scale) (l : Line) → FitsLine scale l → FitsLine scale (kept_of l)
-fits_kept scale (said.Declare head) h = (h.0, each_bare head.params)
-fits_kept scale said.Empty h = h
-fits_kept scale said.Close h = h
-fits_kept scale (said.Kept text) h = h
-fits_kept scale (said.Group n text) h = h
-fits_kept scale (said.GlobalVar name text) h = h
-fits_kept scale (said.Label n) h = h
-fits_kept scale (said.Define head) h = h
-fits_kept scale (said.Inst n inst) h = h
-fits_kept scale (said.Term term) h = h
 
 -- what is kept of a line is said by its printed form
 pub kept_printed : (bytes : List ℕ) (w : Line) → Says bytes w → IsPrinted (kept_of w)

@@ -68,12 +68,12 @@ defs_at (y ∷ blocks) zero k x e t = or_left (has_def y.insts x.number) (defs_o
 defs_at (y ∷ blocks) (suc b) k x e t = or_right (has_def y.insts x.number) (defs_of blocks x.number) (defs_at blocks b k x e t)
 
 -- the Def of a number
-record IsDefOf (xs : List Placed) (i : ℕ) : Type 0 where
-  place : ℕ
-  inst : Placed
-  found : slice_get xs place ≡ Some inst
-  number : inst.number ≡ i
-  def : is_def (kind_of_inst inst.inst) ≡ true
+pub record IsDefOf (xs : List Placed) (i : ℕ) : Type 0 where
+  pub place : ℕ
+  pub inst : Placed
+  pub found : slice_get xs place ≡ Some inst
+  pub number : inst.number ≡ i
+  pub def : is_def (kind_of_inst inst.inst) ≡ true
 
 later_def : (y : Placed) (xs : List Placed) (i : ℕ) → IsDefOf xs i → IsDefOf (y ∷ xs) i
 later_def y xs i r = record { place = suc r.place; inst = r.inst; found = r.found; number = r.number; def = r.def }
@@ -87,11 +87,11 @@ def_found (y ∷ xs) i t = elim (eqb_tells y.number i) [
   | inr other ↦ later_def y xs i (def_found xs i (rw other.0 at t))
 ]
 
-record IsDefIn (blocks : List Block) (i : ℕ) : Type 0 where
-  block : ℕ
-  def : IsDefOf (insts_at blocks block) i
+pub record IsDefIn (blocks : List Block) (i : ℕ) : Type 0 where
+  pub block : ℕ
+  pub def : IsDefOf (insts_at blocks block) i
 
-defs_found : (blocks : List Block) (i : ℕ) → defs_of blocks i ≡ true → IsDefIn blocks i
+pub defs_found : (blocks : List Block) (i : ℕ) → defs_of blocks i ≡ true → IsDefIn blocks i
 defs_found [] i t = cc
 defs_found (y ∷ blocks) i t =
     ⊎_elim (λ (h : has_def y.insts i ≡ true). record { block = 0; def = def_found y.insts i h })

@@ -26,7 +26,10 @@ use Rattle.ms_build.specs.Built.{IsAnswered, IsFormOf}
 use Rattle.ms_climb.specs.Answer.{IsStartAt}
 use Rattle.ms_climb.specs.Chains.{or_entry, before_of}
 use Rattle.ms_climb.specs.Walk.{brought_of}
-use Rattle.ms_climb.proofs.Events.{OnePlaced, event_at, event_of-entry, events_at, take-numbers, length-numbers, number_at, numbered_at, in_take, one_inst, def_told, event_after, take_found, after_phi, entered_phi, last_phi, reached_below, length-graph_of}
+use Rattle.ms_build.proofs.Define.{OnePlaced}
+use Rattle.ms_build.proofs.Events.{event_at, events_at, take-numbers, numbered_at, def_told, event_after, take_found}
+use Rattle.ms_climb.proofs.Events.{event_of-entry, length-numbers, number_at, in_take, one_inst, after_phi, entered_phi, last_phi, reached_below}
+use Rattle.ms_flow.proofs.Tables.{length-graph_of}
 
 -- the laws, as the functions below state them
 abbrev pub LiesLaw : Type 0
@@ -163,7 +166,7 @@ module _ (func : FuncState) (f : FormState) (form : IsFormOf func f) (one : OneP
   is_answer b k r = record { phis = phis; phis_are = form.phis; is_last = λ p path. ap (after D (take k (block_at G b).events)) (started b p path) }
 
   access_at : (b k : ℕ) (x : Placed) → slice_get (insts_at func.blocks b) k ≡ Some x → D x.number ≡ true → HasAccessAt func.blocks b k x
-  access_at b k x at t = record { found = at; names = names_def (kind_of_inst x.inst) (sym (def_told func.blocks b k x one at) ∙ t) }
+  access_at b k x at t = record { found = at; names = names_def (kind_of_inst x.inst) (sym (def_told func.blocks one b k x at) ∙ t) }
 
   pub is_defining : IsDefining G D phis (begins f) (names f)
   is_defining i b k r at t =
@@ -181,7 +184,7 @@ module _ (func : FuncState) (f : FormState) (form : IsFormOf func f) (one : OneP
   before_event : (b k : ℕ) → event_of (or_entry (before_at func.blocks b k (entering_at f b))) ≡ before func f b k
   before_event b k =
       event_of-entry (before_at func.blocks b k (entering_at f b))
-      ∙ event_after D (take k (insts_at func.blocks b)) None (entering_at f b) (λ j x e. def_told func.blocks b j x one (take_found k j (insts_at func.blocks b) x e))
+      ∙ event_after D (take k (insts_at func.blocks b)) None (entering_at f b) (λ j x e. def_told func.blocks one b j x (take_found k j (insts_at func.blocks b) x e))
       ∙ ap (λ (l : List ℕ). after D l (begins f b)) (sym (take-numbers k (insts_at func.blocks b)) ∙ ap (take k) (sym (events_at func.blocks b)))
 
   named_last : (i b k : ℕ) (x : Placed) (a : Access) → IsReached G b → IsAt func.blocks i b k x → defining_at f i ≡ Some a → (names_access (kind_of_inst x.inst) ≡ true) ⊎ (names_access (kind_of_inst x.inst) ≡ false)

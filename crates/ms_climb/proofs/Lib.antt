@@ -6,4 +6,3 @@ pub mod Events
 pub mod Answered
 pub mod Resolved
 pub mod NearLemmas
-pub mod Shapes

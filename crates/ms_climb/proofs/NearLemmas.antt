@@ -18,7 +18,9 @@ use Rattle.ms_build.specs.Built.{IsFormOf}
 use Rattle.ms_climb.specs.Answer.{AreDefs, IsLastAt}
 use Rattle.ms_climb.specs.Chains.{before_of, IsChain}
 use Rattle.ms_climb.specs.Near.{IsStop, IsNear}
-use Rattle.ms_climb.proofs.Events.{OnePlaced, event_of-entry, stands_once}
+use Rattle.ms_build.proofs.Define.{OnePlaced}
+use Rattle.ms_build.proofs.Events.{stands_once}
+use Rattle.ms_climb.proofs.Events.{event_of-entry}
 use Rattle.ms_climb.proofs.Answered.{LiesLaw, EdgesTold, EdgesAll, in_order, begins, leaves, brings, names, in_z, answer_is, is_form, is_defining, entered_begins}
 use Rattle.ms_climb.proofs.Resolved.{WalkLaw}
 

@@ -22,7 +22,9 @@ use Rattle.ms_climb.specs.Chains.{before_of, mark_at, stop_by, stop_of, IsPassed
 use Rattle.ms_climb.specs.Walk.{WalkState, brought_of, has_met, phi_at, Knows, Sees, IsCollected}
 use Rattle.ms_climb.specs.Skips.{SkipsState, skip_of, IsLeading, way_of, IsTrivialWay, IsBrought, IsSettled}
 use Rattle.ms_climb.proofs.WalkLemmas.{sees_start}
-use Rattle.ms_climb.proofs.Events.{OnePlaced, access_of, access_of-event, access_of-entry, stands_once}
+use Rattle.ms_build.proofs.Define.{OnePlaced}
+use Rattle.ms_build.proofs.Events.{access_of, access_of-event, stands_once}
+use Rattle.ms_climb.proofs.Events.{access_of-entry}
 use Rattle.ms_climb.proofs.Answered.{LiesLaw, EdgesTold, EdgesAll, IsSlot, IsIn, slice_get_below, member_at, in_order, begins, leaves, brings, names, in_z, slot_of, edge_of, answer_is, is_form, is_defining, entered_begins, operand_is, answer_in, before_in, brought_in}
 
 abbrev pub WalkLaw : Type 0

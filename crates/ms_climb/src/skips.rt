@@ -1,11 +1,12 @@
 // Phis are left out whose ways all lead to one access.
-ghost use Rattle.std.specs.Prelude.{◌≡◌, ◌<◌, ◌≤◌, ◌^◌, ◌↔◌, ℕ, length, replicate, IfOk, IsTrue, MatchBool, MatchOption, None};
+ghost use Rattle.std.specs.Prelude.{◌≡◌, ◌<◌, ◌≤◌, ◌^◌, ℕ, length, replicate, IfOk, MatchBool, MatchOption, None};
 ghost use Rattle.ms_form.specs.declared.access.Access.{Access};
 ghost use Rattle.ms_form.specs.declared.access.Access.TheVariants.{Phi};
 ghost use Rattle.ms_climb.specs.Walk.{phi_at};
 ghost use Rattle.ms_climb.specs.Skips.{skip_of, kept_count, HasTurns, IsLeading, way_of, IsOnlyWay, HasTwoWays, left_out, IsSkipping, IsDone, AreDone, HasFewer, IsSettled};
 
 use crate::walk::{Walk, brought};
+use ms_build::same_access;
 use ms_flow::Flow;
 use ms_form::{Access, Form};
 use ms_ir::{BlockNo, NoMemory};
@@ -32,13 +33,6 @@ impl Model for Skips {
     ghost Value = { SkipsState };
 
     ghost view = { λ s. record { skips = s.skips.items; turns = s.turns } };
-}
-
-// Whether two accesses are one.
-fn same_access(a: Access, b: Access) -> bool
-    ensures { IsTrue result ↔ (a ≡ b) }
-{
-    a == b
 }
 
 impl Skips {

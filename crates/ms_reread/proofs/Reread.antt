@@ -33,7 +33,7 @@ each_bare : (ps : List Param) → Each IsParam (map without_name ps)
 each_bare [] = tt
 each_bare (p ∷ ps) = (tt, each_bare ps)
 
-fits_kept : (scale : Scale) (l : Line) → FitsLine scale l → FitsLine scale (kept_of l)
+pub fits_kept : (scale : Scale) (l : Line) → FitsLine scale l → FitsLine scale (kept_of l)
 fits_kept scale (said.Declare head) h = (h.0, each_bare head.params)
 fits_kept scale said.Empty h = h
 fits_kept scale said.Close h = h

@@ -27,7 +27,8 @@ use Rattle.ms_session.specs.Annotated.{IsAnnotated, IsInstLine, numbered_from, n
 use Rattle.ms_session.specs.Shown.{reached_in, IsShownLine, entry_text, operand_text, operand_texts, shown_phi}
 use Rattle.ms_session.proofs.Unique.{OneAnswer, true_alike}
 use Rattle.ms_session.proofs.Sources.{edge, edges_hold, edges_have}
-use Rattle.ms_session.proofs.Lasts.{OnePlaced, last_by, lasts_are}
+use Rattle.ms_build.proofs.Define.{OnePlaced}
+use Rattle.ms_session.proofs.Lasts.{last_by, lasts_are}
 
 abbrev pub ReachedTold : List Run → Type 0
 ReachedTold g = (b : ℕ) → IsSome (order_of g b) ↔ IsReached g b

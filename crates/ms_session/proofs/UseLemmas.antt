@@ -19,7 +19,7 @@ use Rattle.ms_alias.specs.Reaches.{IsLocRead, ReadsLoc}
 use Rattle.ms_walk.specs.Clobber.{IsClobberAt, IsClobber}
 use Rattle.ms_session.specs.Annotated.{IsUse, note_of}
 use Rattle.ms_session.specs.Shown.{reached_in, IsShownLine}
-use Rattle.ms_session.proofs.Lasts.{OnePlaced}
+use Rattle.ms_build.proofs.Define.{OnePlaced}
 use Rattle.ms_session.proofs.Annotates.{ReachedTold}
 
 -- one number stands for one instruction at one place

@@ -15,8 +15,11 @@ fn one_if_use(func: &Func, i: InstNo) -> u32
     ensures few { result ≤ 1 }
 {
     match func.kind(i) {
-        Some(Kind::Reads) => 1,
-        Some(Kind::Def) | Some(Kind::Neither) | None => 0,
+        Some(kind) => match kind {
+            Kind::Reads => 1,
+            Kind::Def | Kind::Neither => 0,
+        },
+        None => 0,
     }
 }
 

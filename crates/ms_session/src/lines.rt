@@ -1,16 +1,13 @@
 // The lines of annotations.
 ghost use Rattle.std.specs.Prelude.{◌≡◌, ◌<◌, ◌++◌, [], ℕ, length, drop, decimal, Some, slice_index_or, IfOk, IfSome, MatchOption, OnOk};
-ghost use Rattle.ms_paths.specs.Flow.{IsReached, IsClosed, IsReducible};
+ghost use Rattle.ms_paths.specs.Flow.{IsReached};
 ghost use Rattle.ms_ir.specs.declared.names.Name.TheVariants.{Absent};
 ghost use Rattle.ms_ir.specs.Func.{Placed, IsAt, IsNowhere};
-ghost use Rattle.ms_ir.specs.Graph.{graph_of};
 ghost use Rattle.ms_ir.specs.Inst.{kind_of_inst};
 ghost use Rattle.ms_ir.specs.declared.inst.Kind.TheVariants.{Def, Reads};
 ghost use Rattle.ms_flow.specs.Flow.{sources_of};
-ghost use Rattle.ms_flow.specs.Table.{edges_of};
-ghost use Rattle.ms_build.specs.Built.{IsFormOf};
-ghost use Rattle.ms_alias.specs.Tables.{IsAliasOf};
 ghost use Rattle.ms_build.specs.Accesses.{event_of, operand_at, defining_at};
+ghost use Rattle.ms_walk.specs.Pointed.{IsPointed};
 ghost use Rattle.ms_print.specs.Text.{ended};
 ghost use Rattle.ms_session.specs.Annotated.{access_text, note_of, block_in_entry, with_commas};
 ghost use Rattle.ms_session.specs.Shown.{line_text, IsShownLine, operand_text, operand_texts, comma_text, members_text, phi_text, shown_phi};
@@ -18,10 +15,10 @@ ghost use Rattle.ms_session.specs.Shown.{line_text, IsShownLine, operand_text, o
 use crate::numbers::{Numbers, is_reached};
 use crate::uses::named_by_use;
 use itoa::Buffer;
-use ms_alias::Alias;
 use ms_flow::Flow;
 use ms_form::{Access, Form};
-use ms_ir::{BlockNo, Func, InstNo, Kind, Name, NoMemory, Steps, Text};
+use ms_ir::{BlockNo, InstNo, Kind, Name, NoMemory, Steps, Text};
+use ms_walk::Pointed;
 use std::alloc::Global;
 
 fn push_number(out: &mut Vec<u8>, n: usize) -> Result<(), NoMemory>
@@ -70,32 +67,25 @@ fn use_line(alloc: Global, numbers: &Numbers, before: Access) -> Result<Text, No
 /// The line of an instruction, if it names an access.
 pub fn inst_line(
     alloc: Global,
-    func: &Func,
-    flow: &Flow,
-    form: &Form,
-    alias: &Alias,
+    of: &Pointed,
     numbers: &Numbers,
     i: InstNo,
 ) -> Result<Option<Text>, NoMemory>
-    requires graph { flow.now.graph ≡ edges_of func.now.blocks }
-    requires closed { IsClosed (graph_of func.now.blocks) }
-    requires reducible { IsReducible flow.now.graph }
-    requires form { IsFormOf func.now form.now }
-    requires alias { IsAliasOf func.now alias.now }
-    ensures { IfOk result (λ line. (b place : ℕ) (x : Placed) → IsAt func.now.blocks i.0 b place x →
-        IsShownLine func.now numbers.now.all b place x (defining_at form.now i.0) (kind_of_inst x.inst) (line_text line)) }
+    requires { IsPointed of.now.func.now of.now.flow.now.graph of.now.form.now of.now.alias.now }
+    ensures { IfOk result (λ line. (b place : ℕ) (x : Placed) → IsAt of.now.func.now.blocks i.0 b place x →
+        IsShownLine of.now.func.now numbers.now.all b place x (defining_at of.now.form.now i.0) (kind_of_inst x.inst) (line_text line)) }
 {
-    func.numbered();
+    of.func.numbered();
     ms_flow::same_paths();
     ms_flow::order_told();
-    let last = match form.defining(i) {
+    let last = match of.form.defining(i) {
         Some(last) => last,
         None => return Ok(None),
     };
-    match func.kind(i) {
+    match of.func.kind(i) {
         Some(Kind::Def) => Ok(Some(def_line(alloc, numbers, i, last)?)),
         Some(Kind::Reads) => {
-            let clobber = named_by_use(alloc, func, flow, form, alias, i)?;
+            let clobber = named_by_use(alloc, of, i)?;
             Ok(Some(use_line(alloc, numbers, clobber)?))
         }
         Some(Kind::Neither) => Ok(None),

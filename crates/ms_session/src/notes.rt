@@ -1,24 +1,20 @@
 // The annotations of a function.
 ghost use Rattle.std.specs.Prelude.{◌≡◌, ◌<◌, ◌≤◌, [], ℕ, length, Some, slice_get, IfOk, OnOk};
-ghost use Rattle.ms_paths.specs.Flow.{IsClosed, IsReducible};
-ghost use Rattle.ms_ir.specs.Graph.{graph_of};
-ghost use Rattle.ms_alias.specs.Tables.{IsAliasOf};
 ghost use Rattle.ms_ir.specs.Inst.{kind_of_inst};
 ghost use Rattle.ms_ir.specs.Func.{Placed, insts_at};
-ghost use Rattle.ms_flow.specs.Table.{edges_of};
 ghost use Rattle.ms_build.specs.Accesses.{defining_at};
-ghost use Rattle.ms_build.specs.Built.{IsFormOf};
 ghost use Rattle.ms_print.specs.Text.{note_at};
+ghost use Rattle.ms_walk.specs.Pointed.{IsPointed};
 ghost use Rattle.ms_session.specs.Annotated.{IsAnnotated};
 ghost use Rattle.ms_session.specs.Shown.{IsShownLine, shown_phi, with_line};
 
 use crate::lines::{inst_line, phi_line};
 use crate::numbers::{Numbers, number_all};
-use ms_alias::Alias;
 use ms_flow::Flow;
 use ms_form::Form;
-use ms_ir::{BlockNo, Func, InstNo, Name, Names, NoMemory, Text};
+use ms_ir::{BlockNo, InstNo, Name, Names, NoMemory, Text};
 use ms_print::{Note, NoteList, Notes, block_labels, print_func};
+use ms_walk::Pointed;
 use std::alloc::Global;
 
 // A line behind the others, if there is one.
@@ -53,56 +49,42 @@ fn phi_notes(
 // The lines before instructions, in rising order of their numbers.
 fn inst_notes(
     alloc: Global,
-    func: &Func,
-    flow: &Flow,
-    form: &Form,
-    alias: &Alias,
+    of: &Pointed,
     numbers: &Numbers,
 ) -> Result<NoteList, NoMemory>
-    requires graph { flow.now.graph ≡ edges_of func.now.blocks }
-    requires closed { IsClosed (graph_of func.now.blocks) }
-    requires reducible { IsReducible flow.now.graph }
-    requires form { IsFormOf func.now form.now }
-    requires alias { IsAliasOf func.now alias.now }
-    ensures { IfOk result (λ notes. (b k : ℕ) (x : Placed) → slice_get (insts_at func.now.blocks b) k ≡ Some x →
-        IsShownLine func.now numbers.now.all b k x (defining_at form.now x.number) (kind_of_inst x.inst) (note_at notes x.number)) }
+    requires { IsPointed of.now.func.now of.now.flow.now.graph of.now.form.now of.now.alias.now }
+    ensures { IfOk result (λ notes. (b k : ℕ) (x : Placed) → slice_get (insts_at of.now.func.now.blocks b) k ≡ Some x →
+        IsShownLine of.now.func.now numbers.now.all b k x (defining_at of.now.form.now x.number) (kind_of_inst x.inst) (note_at notes x.number)) }
 {
-    func.numbered();
+    of.func.numbered();
     let mut notes = NoteList::new(alloc);
-    for i in 0..func.made() {
-        let line = inst_line(alloc, func, flow, form, alias, numbers, InstNo(i))?;
+    for i in 0..of.func.made() {
+        let line = inst_line(alloc, of, numbers, InstNo(i))?;
         push_line(&mut notes, i, line)?;
     }
     Ok(notes)
 }
 
-/// The text of a function with its annotations, by its flow graph, its form and its pointers. One walk is made for each use in
+/// The text of a function with its annotations. One walk is made for each use in
 /// a reached block.
 pub fn annotated(
     alloc: Global,
     names: &Names,
-    func: &Func,
-    flow: &Flow,
-    form: &Form,
-    alias: &Alias,
+    of: &Pointed,
 ) -> Result<Text, NoMemory>
-    requires graph { flow.now.graph ≡ edges_of func.now.blocks }
-    requires closed { IsClosed (graph_of func.now.blocks) }
-    requires reducible { IsReducible flow.now.graph }
-    requires form { IsFormOf func.now form.now }
-    requires alias { IsAliasOf func.now alias.now }
-    ensures { IfOk result (λ text. IsAnnotated names.now func.now text) }
+    requires { IsPointed of.now.func.now of.now.flow.now.graph of.now.form.now of.now.alias.now }
+    ensures { IfOk result (λ text. IsAnnotated names.now of.now.func.now text) }
 {
-    func.numbered();
+    of.func.numbered();
     ms_paths::one_answer();
     ms_flow::same_paths();
     ms_flow::order_told();
     ms_flow::sources_told();
-    let numbers = number_all(alloc, func, flow, form)?;
-    let labels = block_labels(alloc, func)?;
+    let numbers = number_all(alloc, of.func, of.flow, of.form)?;
+    let labels = block_labels(alloc, of.func)?;
     let notes = Notes {
-        phis: phi_notes(alloc, labels.as_slice(), &numbers, flow, form)?,
-        insts: inst_notes(alloc, func, flow, form, alias, &numbers)?,
+        phis: phi_notes(alloc, labels.as_slice(), &numbers, of.flow, of.form)?,
+        insts: inst_notes(alloc, of, &numbers)?,
     };
-    Ok(print_func(alloc, func, names, &notes)?)
+    Ok(print_func(alloc, of.func, names, &notes)?)
 }

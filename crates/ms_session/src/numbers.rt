@@ -124,8 +124,11 @@ fn number_inst(numbers: &mut Numbers, func: &Func, i: InstNo) -> Result<(), NoMe
     ensures { OnOk result ((b place : ℕ) (x : Placed) → IsAt func.now.blocks i.0 b place x → numbers.new ≡ with_more numbers.old (def_events (x ∷ []))) }
 {
     match func.kind(i) {
-        Some(Kind::Def) => numbers.push(Access::Of(i))?,
-        Some(Kind::Reads) | Some(Kind::Neither) | None => {}
+        Some(kind) => match kind {
+            Kind::Def => numbers.push(Access::Of(i))?,
+            Kind::Reads | Kind::Neither => {}
+        },
+        None => {}
     }
     Ok(())
 }

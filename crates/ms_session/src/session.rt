@@ -9,7 +9,7 @@ use ms_build::build;
 use ms_flow::Flow;
 use ms_form::{Access, Form};
 use ms_ir::{BlockNo, Func, InstNo, Names, NoMemory, Text};
-use ms_walk::walk;
+use ms_walk::{Pointed, walk};
 use std::alloc::Global;
 use std::marker::Model;
 
@@ -93,14 +93,13 @@ impl Session {
     {
         ms_flow::same_paths();
         ms_flow::order_told();
-        let text = annotated(
-            self.alloc,
-            names,
-            &self.func,
-            &self.flow,
-            &self.form,
-            &self.alias,
-        )?;
+        let of = Pointed {
+            func: &self.func,
+            flow: &self.flow,
+            form: &self.form,
+            alias: &self.alias,
+        };
+        let text = annotated(self.alloc, names, &of)?;
         let walks = count_uses(&self.func, &self.flow);
         Ok(Printed { text, walks })
     }

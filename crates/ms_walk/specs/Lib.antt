@@ -1,1 +1,2 @@
 pub mod Clobber
+pub mod Pointed

@@ -2,8 +2,10 @@
 #![tactic(auto)]
 
 mod laws;
+mod pointed;
 mod search;
 mod writers;
 
 pub use laws::{clobber_holds, one_clobber};
+pub use pointed::Pointed;
 pub use search::walk;

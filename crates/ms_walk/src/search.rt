@@ -12,6 +12,7 @@ ghost use Rattle.ms_walk.specs.Clobber.{IsClobber};
 
 use crate::writers::Writers;
 use ms_alias::{Alias, Loc};
+use ms_build::Formed;
 use ms_climb::last_before;
 use ms_flow::Flow;
 use ms_form::{Access, Form};
@@ -45,5 +46,6 @@ pub fn walk(
     ms_alias::tests_told();
     ms_sound::clobbers_are_sound();
     let writers = Writers { func, alias, loc };
-    Ok(last_before(alloc, func, flow, form, &writers, i)?)
+    let formed = Formed { func, flow, form };
+    Ok(last_before(alloc, &formed, &writers, i)?)
 }

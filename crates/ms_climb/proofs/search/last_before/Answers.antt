@@ -8,7 +8,7 @@ use Rattle.ms_climb.proofs.search.last_before.Goals as goal
 
 pub returns : goal.returns
 returns g c =
-    let func = c.args.func.now in
+    let func = c.args.formed.now.func.now in
     let E = g.W.Writes.test c.args.counted.now in
     let start = c.start_before-start.result in
     let r = c.requires.reached in
@@ -17,5 +17,5 @@ returns g c =
     let place = c.numbered.ensures.one_place r.block r.place b k r.inst x r.at.found at.found in
     let same = place (r.at.numbered ∙ sym at.numbered) in
     let reached : IsReached (graph_of func.blocks) b = subst (IsReached (graph_of func.blocks)) same.0 r.reached in
-    h b k reached (start_last func c.args.form.now c.requires.form c.numbered.ensures.one_place c.args.i.0 b k x start reached at (c.start_before-start.ensures b k x at)))
+    h b k reached (start_last func c.args.formed.now.form.now c.requires.formed.form c.numbered.ensures.one_place c.args.i.0 b k x start reached at (c.start_before-start.ensures b k x at)))
     c.climb.ensures

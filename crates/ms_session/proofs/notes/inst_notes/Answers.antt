@@ -12,8 +12,8 @@ use Rattle.ms_session.proofs.notes.inst_notes.Goals as goal
 pub loop-i-preserved : goal.loop-i-preserved
 loop-i-preserved c =
     let i = c.loop-i.i in
-    let f = c.args.func.now in
-    let form = c.args.form.now in
+    let f = c.args.of.now.func.now in
+    let form = c.args.of.now.form.now in
     let all = c.args.numbers.now.all in
     let old = c.loop-i.notes in
     let new = c.push_line.new.notes in

@@ -9,7 +9,7 @@ use Rattle.ms_session.proofs.notes.inst_notes.Given as goal
 
 abbrev pub invariant-loop-i : goal.invariant-loop-i
 invariant-loop-i l = record {
-  done : (b k : ℕ) (x : Placed) → slice_get (insts_at l.func.blocks b) k ≡ Some x → x.number < l.i
-      → IsShownLine l.func l.numbers.all b k x (defining_at l.form x.number) (kind_of_inst x.inst) (note_at l.notes x.number);
+  done : (b k : ℕ) (x : Placed) → slice_get (insts_at l.of.func.now.blocks b) k ≡ Some x → x.number < l.i
+      → IsShownLine l.of.func.now l.numbers.all b k x (defining_at l.of.form.now x.number) (kind_of_inst x.inst) (note_at l.notes x.number);
   rest : (n : ℕ) → l.i ≤ n → note_at l.notes n ≡ [];
 }

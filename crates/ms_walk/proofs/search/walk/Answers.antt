@@ -31,3 +31,6 @@ returns-clause-sound c =
 pub last_before-requires-clause-defs : goal.last_before-requires-clause-defs
 last_before-requires-clause-defs c =
     λ j t. writer_is_def c.args.func.now c.numbered.ensures.one_place j c.args.loc.now ((c.tests_told.ensures.writes c.args.func.now c.args.alias.now c.requires.alias c.args.loc.now j).0 t)
+
+pub last_before-requires-clause-formed : goal.last_before-requires-clause-formed
+last_before-requires-clause-formed c = record { graph = c.requires.graph; closed = c.requires.closed; reducible = c.requires.reducible; form = c.requires.form }
