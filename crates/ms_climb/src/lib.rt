@@ -32,8 +32,8 @@
 //!
 //! **What a caller may not assume.** The test has to hold of Defs of the function alone; the flow graph and the form have to be the function's, the
 //! graph reducible, the instruction or block reached. In which order Defs are asked is not said; that each is asked once at most is shown by tests,
-//! not by a clause. There is no limit behind which the search gives up: it takes memory, at most so much for each instruction, block and access that
-//! it meets, and answers only when it is through.
+//! not by a clause. There is no limit behind which the search gives up: it takes memory, at worst for each instruction and block of the function, and
+//! answers only when it is through.
 #![tactic(auto)]
 
 mod chains;
