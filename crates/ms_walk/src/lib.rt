@@ -1,4 +1,53 @@
-//! The walker: the clobber of a location before an instruction, by the search of `ms_climb` and the pointers of `ms_alias`.
+//! The walker: the clobber of a location before an instruction, which is the last Def on every path that may write the location.
+//!
+//! A loop, with what its use names:
+//!
+//! ```text
+//! define void @last(i1 %c) {
+//! entry:
+//!   %a = alloca i8
+//!   %b = alloca i8
+//! ; 1 = MemoryDef(liveOnEntry)
+//!   store i8 1, ptr %a
+//!   br label %loop
+//!
+//! loop:
+//! ; 2 = MemoryPhi({entry,1},{loop,3})
+//! ; MemoryUse(1)
+//!   %x = load i8, ptr %a
+//! ; 3 = MemoryDef(2)
+//!   store i8 %x, ptr %b
+//!   br i1 %c, label %loop, label %exit
+//!
+//! exit:
+//!   ret void
+//! }
+//! ```
+//!
+//! ```text
+//! let access = walk(alloc, &func, &flow, &form, &alias, x, &loc)?;    // x: the load's number; loc: the byte of %a; the answer: 1
+//! ```
+//!
+//! **What it is.** A walk is a clobber query. Of the Defs that may write the location, the clobber is the last on every path to the instruction, with
+//! phis where those Defs alone need one; it is the entry where none is before. The location is so many bytes from an offset of a root, or what some
+//! instruction reads; it need not be what the instruction at hand reads.
+//!
+//! **Why it is so.** The memory form names the last access before each place for all Defs together; a clobber asks for some of them. The definition
+//! does not say how it is found: it is the access that a memory form of that location alone would have there. Such a form has no phi at `loop`, since
+//! 3 does not write `%a`. The walk comes to the same on the form that is there: it goes up from the access before the instruction, asks of each Def
+//! that it meets whether it may write the location, opens the phis, and leaves out those whose ways all lead to one access (`ms_climb`); what may
+//! write is told by the pointers (`ms_alias`). At `loop` one way leads to 1, the other over 3 to the phi itself, so the phi is left out.
+//!
+//! **What a caller may assume.** The answer is the clobber, by the clause `clobber`; there is one at most ([`one_clobber`]). It holds on every run,
+//! by the clause `sound`: from when it took place last up to the instruction, no step writes a byte of the location, which are counted from where its
+//! root points to when the instruction is about to run. That asks that allocas stand in the first block, to which no edge leads; [`clobber_holds`]
+//! says the same of any clobber, however it was found. An instruction that is the answer lies on every path (`ms_paths::answer_lies_on_every`). Want
+//! of memory is the only fault.
+//!
+//! **What a caller may not assume.** A clobber may write the location, and may also leave it as it is; what must be written is told by
+//! `Alias::must_write`. No location is carried over a phi of pointers: at a pointer that a phi gives, the root is the phi, whichever way was taken. A
+//! walk has no limit behind which it would answer something nearer, and no clause bounds its time. Nothing is kept from one walk to the next. The
+//! flow graph, the form and the pointers have to be the function's, its loops reducible, and the instruction in a reached block.
 #![tactic(auto)]
 
 mod laws;
