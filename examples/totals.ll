@@ -116,6 +116,26 @@ declare i64 @strlen(ptr noundef) #1
 declare void @notice(i32 noundef) #2
 
 ; Function Attrs: noinline nounwind uwtable
+define dso_local i32 @counted(ptr noundef %cells) #0 {
+entry:
+  store i32 1, ptr @seen, align 16
+  %call = call i32 @sum_of(ptr noundef %cells)
+  %0 = load i32, ptr @seen, align 16
+  %add = add nsw i32 %call, %0
+  ret i32 %add
+}
+
+; Function Attrs: noinline nounwind uwtable
+define internal i32 @sum_of(ptr noundef %cells) #0 {
+entry:
+  %0 = load i32, ptr %cells, align 4
+  %arrayidx1 = getelementptr inbounds i8, ptr %cells, i64 4
+  %1 = load i32, ptr %arrayidx1, align 4
+  %add = add nsw i32 %0, %1
+  ret i32 %add
+}
+
+; Function Attrs: noinline nounwind uwtable
 define dso_local i32 @ends(ptr noundef %text) #0 {
 entry:
   %bytes.sroa.2 = alloca [10 x i8], align 1
