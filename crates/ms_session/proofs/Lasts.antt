@@ -1,17 +1,14 @@
 -- What a form says is last is last on every path.
-use Rattle.std.proofs.Common.{◌≡◌, ◌↔◌, ℕ, suc, zero, Bool, true, false, List, [], ◌∷◌, take, Option, Some, None, if◌then◌else◌, refl, sym, ap, ◌∙◌, subst, arith, ⊎_elim}
-use Rattle.std.specs.Prelude.{slice_get, IsTrue, nat_eq}
+use Rattle.std.proofs.Common.{◌≡◌, ◌↔◌, ℕ, Bool, true, false, List, take, Option, Some, None, if◌then◌else◌, refl, sym, ap, ◌∙◌, subst, ⊎_elim}
+use Rattle.std.specs.Prelude.{IsTrue}
 use Rattle.std.proofs.lemmas.Bool.{cases_Bool}
-use Rattle.std.proofs.lemmas.Bool.Decides.{nat_tests}
-use Rattle.ms_paths.specs.Flow.{block_at, Event, Of as LastOf, Entry as LastEntry, IsReached, IsAnswer, after}
-use Rattle.ms_ir.specs.declared.names.InstNo.{InstNo}
-use Rattle.ms_ir.specs.Inst.{kind_of_inst}
+use Rattle.ms_paths.specs.Flow.{block_at, Event, Entry as LastEntry, IsReached, IsAnswer, after}
 use Rattle.ms_ir.specs.Func.{Placed, Block, FuncState, insts_at}
-use Rattle.ms_ir.specs.Graph.{numbers, graph_of, is_def, has_def, defs_of}
+use Rattle.ms_ir.specs.Graph.{numbers, graph_of, defs_of}
 use Rattle.ms_ir.specs.Lasts.{IsLasts}
 use Rattle.ms_form.specs.declared.access.Access.{Access}
-use Rattle.ms_form.specs.Form.{FormState, after_last}
-use Rattle.ms_build.specs.Accesses.{event_of, has_phi, entering_at}
+use Rattle.ms_form.specs.Form.{FormState}
+use Rattle.ms_build.specs.Accesses.{has_phi, entering_at}
 use Rattle.ms_build.specs.Built.{IsFormOf, IsAnswered}
 use Rattle.ms_build.specs.Filled.{before_at}
 use Rattle.ms_build.proofs.Define.{OnePlaced}

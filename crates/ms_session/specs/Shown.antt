@@ -1,9 +1,8 @@
 -- The annotated text as a form shows it.
-use Rattle.std.specs.Prelude.{◌≡◌, ◌<◌, ℕ, suc, Bool, if◌then◌else◌, ◌==◌, List, [], ◌∷◌, ◌++◌, Option, Some, None, is_some, option_map, codes, decimal, slice_get, slice_index_or}
+use Rattle.std.specs.Prelude.{◌≡◌, ◌<◌, ℕ, suc, Bool, if◌then◌else◌, ◌==◌, List, [], ◌∷◌, ◌++◌, Option, Some, None, is_some, option_map, codes, decimal, slice_index_or}
 use Rattle.ms_paths.specs.Flow.{Block as Run, Event, Of as LastOf, Phi as LastPhi}
 use Rattle.ms_ir.specs.declared.names.Name.{Name}
 use Rattle.ms_ir.specs.declared.names.Name.TheVariants.{Absent}
-use Rattle.ms_ir.specs.declared.names.InstNo.{InstNo}
 use Rattle.ms_ir.specs.declared.inst.Kind.{Kind}
 use Rattle.ms_ir.specs.declared.inst.Kind.TheVariants.{Def, Reads, Neither}
 use Rattle.ms_ir.specs.Func.{Placed, Block, FuncState, insts_at}

@@ -47,11 +47,7 @@ fn phi_notes(
 }
 
 // The lines before instructions, in rising order of their numbers.
-fn inst_notes(
-    alloc: Global,
-    of: &Pointed,
-    numbers: &Numbers,
-) -> Result<NoteList, NoMemory>
+fn inst_notes(alloc: Global, of: &Pointed, numbers: &Numbers) -> Result<NoteList, NoMemory>
     requires { IsPointed of.now.func.now of.now.flow.now.graph of.now.form.now of.now.alias.now }
     ensures { IfOk result (λ notes. (b k : ℕ) (x : Placed) → slice_get (insts_at of.now.func.now.blocks b) k ≡ Some x →
         IsShownLine of.now.func.now numbers.now.all b k x (defining_at of.now.form.now x.number) (kind_of_inst x.inst) (note_at notes x.number)) }
@@ -67,11 +63,7 @@ fn inst_notes(
 
 /// The text of a function with its annotations. One walk is made for each use in
 /// a reached block.
-pub fn annotated(
-    alloc: Global,
-    names: &Names,
-    of: &Pointed,
-) -> Result<Text, NoMemory>
+pub fn annotated(alloc: Global, names: &Names, of: &Pointed) -> Result<Text, NoMemory>
     requires { IsPointed of.now.func.now of.now.flow.now.graph of.now.form.now of.now.alias.now }
     ensures { IfOk result (λ text. IsAnnotated names.now of.now.func.now text) }
 {
