@@ -1,4 +1,5 @@
 /* Functions that are refused, each for one frequent reason, with the recipe of docs/GUIDE.md too. outside.ll is what it makes of them. */
+#include <ctype.h>
 #include <stdlib.h>
 #include <string.h>
 
@@ -42,6 +43,8 @@ void copy(char *to, const char *from, size_t n) { memcpy(to, from, n); }
 int positive(int n) { return abs(n); }
 
 unsigned turned(unsigned n) { return n << 7 | n >> 25; }
+
+int is_blank(unsigned char c) { return isspace(c) != 0; }
 
 int fresh(void) {
   int *cell = malloc(sizeof *cell);

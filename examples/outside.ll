@@ -104,7 +104,7 @@ define dso_local i32 @cleared() #0 {
 entry:
   %cells = alloca [32 x i32], align 16
   call void @llvm.memset.p0.i64(ptr noundef nonnull align 16 dereferenceable(128) %cells, i8 0, i64 128, i1 false)
-  %call = call i32 @use(ptr noundef nonnull %cells) #8
+  %call = call i32 @use(ptr noundef nonnull %cells) #9
   ret i32 %call
 }
 
@@ -141,20 +141,37 @@ entry:
 }
 
 ; Function Attrs: noinline nounwind uwtable
+define dso_local i32 @is_blank(i8 noundef zeroext %c) #0 {
+entry:
+  %call = call ptr @__ctype_b_loc() #10
+  %0 = load ptr, ptr %call, align 8
+  %idxprom = zext i8 %c to i64
+  %arrayidx = getelementptr inbounds i16, ptr %0, i64 %idxprom
+  %1 = load i16, ptr %arrayidx, align 2
+  %2 = lshr i16 %1, 13
+  %.lobit = and i16 %2, 1
+  %conv2 = zext nneg i16 %.lobit to i32
+  ret i32 %conv2
+}
+
+; Function Attrs: nounwind willreturn memory(none)
+declare ptr @__ctype_b_loc() #5
+
+; Function Attrs: noinline nounwind uwtable
 define dso_local i32 @fresh() #0 {
 entry:
-  %call = call noalias dereferenceable_or_null(4) ptr @malloc(i64 noundef 4) #9
-  %call1 = call i32 @use(ptr noundef %call) #8
+  %call = call noalias dereferenceable_or_null(4) ptr @malloc(i64 noundef 4) #11
+  %call1 = call i32 @use(ptr noundef %call) #9
   ret i32 %call1
 }
 
 ; Function Attrs: nounwind allocsize(0)
-declare noalias ptr @malloc(i64 noundef) #5
+declare noalias ptr @malloc(i64 noundef) #6
 
 ; Function Attrs: noinline nounwind uwtable
 define dso_local i32 @applied(ptr noundef %f, i32 noundef %x) #0 {
 entry:
-  %call = call i32 %f(i32 noundef %x) #8
+  %call = call i32 %f(i32 noundef %x) #9
   ret i32 %call
 }
 
@@ -163,7 +180,7 @@ define dso_local i32 @boxed(i32 noundef %value) #0 {
 entry:
   %n = alloca %struct.node, align 8
   store i32 %value, ptr %n, align 8
-  %call = call i32 @use(ptr noundef nonnull %n) #8
+  %call = call i32 @use(ptr noundef nonnull %n) #9
   ret i32 %call
 }
 
@@ -172,20 +189,20 @@ define dso_local i32 @rest(i32 noundef %n) #0 {
 entry:
   %0 = zext i32 %n to i64
   %vla = alloca i32, i64 %0, align 16
-  %call = call i32 @use(ptr noundef nonnull %vla) #8
+  %call = call i32 @use(ptr noundef nonnull %vla) #9
   ret i32 %call
 }
 
 ; Function Attrs: nocallback nofree nosync nounwind willreturn
-declare ptr @llvm.stacksave.p0() #6
+declare ptr @llvm.stacksave.p0() #7
 
 ; Function Attrs: nocallback nofree nosync nounwind willreturn
-declare void @llvm.stackrestore.p0(ptr) #6
+declare void @llvm.stackrestore.p0(ptr) #7
 
 ; Function Attrs: noinline nounwind uwtable
 define dso_local void @sorted(ptr noundef %cells, i64 noundef %n) #0 {
 entry:
-  call void @qsort(ptr noundef %cells, i64 noundef %n, i64 noundef 4, ptr noundef nonnull @compare) #8
+  call void @qsort(ptr noundef %cells, i64 noundef %n, i64 noundef 4, ptr noundef nonnull @compare) #9
   ret void
 }
 
@@ -197,7 +214,7 @@ declare i32 @compare(ptr noundef, ptr noundef) #2
 define dso_local i32 @ended(ptr noundef %text) #0 {
 entry:
   %end = alloca ptr, align 8
-  %call = call i64 @strtol(ptr noundef %text, ptr noundef nonnull %end, i32 noundef 10) #8
+  %call = call i64 @strtol(ptr noundef %text, ptr noundef nonnull %end, i32 noundef 10) #9
   %conv = trunc i64 %call to i32
   %0 = load ptr, ptr %end, align 8
   %1 = load i8, ptr %0, align 1
@@ -207,12 +224,12 @@ entry:
 }
 
 ; Function Attrs: nounwind
-declare i64 @strtol(ptr noundef, ptr noundef, i32 noundef) #7
+declare i64 @strtol(ptr noundef, ptr noundef, i32 noundef) #8
 
 ; Function Attrs: noinline nounwind uwtable
 define dso_local i32 @now() #0 {
 entry:
-  %call = call i32 @use(ptr noundef null) #8
+  %call = call i32 @use(ptr noundef null) #9
   ret i32 %call
 }
 
@@ -225,7 +242,7 @@ entry:
   br i1 %tobool.not, label %if.end, label %if.then
 
 if.then:                                          ; preds = %entry
-  %call = call i32 @use(ptr noundef nonnull %wanted.addr) #8
+  %call = call i32 @use(ptr noundef nonnull %wanted.addr) #9
   br label %if.end
 
 if.end:                                           ; preds = %if.then, %entry
@@ -237,7 +254,7 @@ if.end:                                           ; preds = %if.then, %entry
 define dso_local i32 @large() #0 {
 entry:
   %cells = alloca [20000 x i32], align 16
-  %call = call i32 @use(ptr noundef nonnull %cells) #8
+  %call = call i32 @use(ptr noundef nonnull %cells) #9
   ret i32 %call
 }
 
@@ -251,7 +268,7 @@ entry:
   br i1 %tobool.not, label %even, label %odd
 
 even:                                             ; preds = %entry, %odd
-  %call = call i32 @use(ptr noundef nonnull %n.addr) #8
+  %call = call i32 @use(ptr noundef nonnull %n.addr) #9
   store i32 %call, ptr %n.addr, align 4
   %and1 = and i32 %call, 2
   %tobool2.not = icmp eq i32 %and1, 0
@@ -276,11 +293,13 @@ attributes #1 = { nocallback nofree nounwind willreturn memory(argmem: write) }
 attributes #2 = { "frame-pointer"="all" "no-trapping-math"="true" "stack-protector-buffer-size"="8" "target-cpu"="x86-64" "target-features"="+cmov,+cx8,+fxsr,+mmx,+sse,+sse2,+x87" "tune-cpu"="generic" }
 attributes #3 = { nocallback nofree nounwind willreturn memory(argmem: readwrite) }
 attributes #4 = { nocallback nofree nosync nounwind speculatable willreturn memory(none) }
-attributes #5 = { nounwind allocsize(0) "frame-pointer"="all" "no-trapping-math"="true" "stack-protector-buffer-size"="8" "target-cpu"="x86-64" "target-features"="+cmov,+cx8,+fxsr,+mmx,+sse,+sse2,+x87" "tune-cpu"="generic" }
-attributes #6 = { nocallback nofree nosync nounwind willreturn }
-attributes #7 = { nounwind "frame-pointer"="all" "no-trapping-math"="true" "stack-protector-buffer-size"="8" "target-cpu"="x86-64" "target-features"="+cmov,+cx8,+fxsr,+mmx,+sse,+sse2,+x87" "tune-cpu"="generic" }
-attributes #8 = { nounwind }
-attributes #9 = { nounwind allocsize(0) }
+attributes #5 = { nounwind willreturn memory(none) "frame-pointer"="all" "no-trapping-math"="true" "stack-protector-buffer-size"="8" "target-cpu"="x86-64" "target-features"="+cmov,+cx8,+fxsr,+mmx,+sse,+sse2,+x87" "tune-cpu"="generic" }
+attributes #6 = { nounwind allocsize(0) "frame-pointer"="all" "no-trapping-math"="true" "stack-protector-buffer-size"="8" "target-cpu"="x86-64" "target-features"="+cmov,+cx8,+fxsr,+mmx,+sse,+sse2,+x87" "tune-cpu"="generic" }
+attributes #7 = { nocallback nofree nosync nounwind willreturn }
+attributes #8 = { nounwind "frame-pointer"="all" "no-trapping-math"="true" "stack-protector-buffer-size"="8" "target-cpu"="x86-64" "target-features"="+cmov,+cx8,+fxsr,+mmx,+sse,+sse2,+x87" "tune-cpu"="generic" }
+attributes #9 = { nounwind }
+attributes #10 = { nounwind willreturn memory(none) }
+attributes #11 = { nounwind allocsize(0) }
 
 !llvm.module.flags = !{!0, !1, !2, !3, !4}
 !llvm.ident = !{!5}
