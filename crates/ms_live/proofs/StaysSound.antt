@@ -27,7 +27,7 @@ use Rattle.ms_alias.specs.declared.loc.Root.{Root}
 use Rattle.ms_alias.specs.Reaches.{Span, IsWritten}
 use Rattle.ms_meaning.proofs.LastEvents.{events_at}
 use Rattle.ms_live.specs.Dead.{IsDead, is_kept, kept_in, kept_before, dse}
-use Rattle.ms_live.proofs.Kept.{insts_kept, term_kept, kept_at, first_kept, first_left, count_kept, count_left}
+use Rattle.ms_live.proofs.Kept.{one_inst, insts_kept, term_kept, kept_at, first_kept, first_left, count_kept, count_left}
 use Rattle.ms_live.proofs.Taken.{Stood, stood_in}
 
 -- a use at a place of the function, and the same use at its place among what is kept
@@ -140,9 +140,7 @@ none_given (Some l) e = absurd (true≢false e)
 dead_give_none : (f : FuncState) (dead : ℕ → Bool) → IsNumbered f → ((i : ℕ) → dead i ≡ true → IsDead f i) → (b k : ℕ) (x : Placed) → slice_get (insts_at f.blocks b) k ≡ Some x → dead x.number ≡ true → x.result ≡ None
 dead_give_none f dead numbered all b k x found gone =
     let h = all x.number gone in
-    let one = numbered.one_place h.block h.place b k h.inst x h.there.found found h.there.numbered in
-    let two : Some h.inst ≡ Some x = sym h.there.found ∙ ap (λ a. slice_get (insts_at f.blocks a) h.place) one.0 ∙ ap (slice_get (insts_at f.blocks b)) one.1 ∙ found in
-    let same : h.inst ≡ x = cc in
+    let same = (one_inst f numbered h.block h.place b k h.inst x h.there.found found h.there.numbered).2 in
     none_given x.result (numbered.gives b k x found ∙ spans_give_none f x.inst h.root h.from h.len (subst (λ (z : Placed). IsWritten f z.inst (Span h.root h.from h.len)) same h.writes))
 
 -- ---- the function
