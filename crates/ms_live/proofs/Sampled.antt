@@ -1,5 +1,5 @@
 -- Stores that are dead, and stores that are not, in small functions.
-use Rattle.std.proofs.Common.{◌≡◌, ◌∙◌, ◌<◌, ◌⊎◌, ℕ, zero, suc, ◌+◌, ℤ, pos, ◌+ℤ◌, [], ◌∷◌, Some, None, refl, sym, ap, subst, inl, inr, true, false, arith}
+use Rattle.std.proofs.Common.{◌≡◌, ◌∙◌, ◌<◌, ◌⊎◌, ℕ, zero, suc, ◌+◌, ℤ, pos, ◌+ℤ◌, [], ◌∷◌, Some, refl, sym, ap, subst, inl, inr, false, arith}
 use Rattle.std.specs.Prelude.{◌≢◌, ◌==◌, Contains, IsTrue, slice_get, ◌≤ℤ◌, ◌<ℤ◌}
 use Rattle.std.proofs.lemmas.Bool.{eqb-true, true≢false}
 use Rattle.std.proofs.lemmas.Int.{ints}
@@ -10,7 +10,7 @@ use Rattle.ms_alias.specs.declared.loc.Root.{Root}
 use Rattle.ms_alias.specs.declared.loc.Loc.{Loc}
 use Rattle.ms_alias.specs.declared.loc.Loc.TheVariants.{Bytes}
 use Rattle.ms_alias.specs.Roots.{Maker, is_alloca, IsFixed}
-use Rattle.ms_alias.specs.Bases.{Base, Alloca, Argument, IsBrought, IsNamed}
+use Rattle.ms_alias.specs.Bases.{Argument, IsBrought, IsNamed}
 use Rattle.ms_alias.specs.Reaches.{Reach, Span, IsRead, IsWritten, IsSpan}
 use Rattle.ms_alias.specs.Meeting.{MayRead, MustWrite, IsOuter, IsOuterBase}
 use Rattle.ms_meaning.specs.Memory.{HoldsByte}

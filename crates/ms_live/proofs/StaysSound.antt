@@ -1,6 +1,6 @@
 -- A sound function without some instructions that give no result is sound.
 use Rattle.std.proofs.Common.{◌≡◌, ◌∙◌, ◌<◌, ◌≤◌, ℕ, zero, suc, ℤ, Bool, true, false, List, [], ◌∷◌, length, map, take, Option, Some, None, refl, sym, ap, subst, inl, inr, ⊎_elim, arith}
-use Rattle.std.specs.Prelude.{Contains, slice_get, slice_index_or, filter, nat_lt, is_some}
+use Rattle.std.specs.Prelude.{Contains, slice_get, filter, nat_lt, is_some}
 use Rattle.std.proofs.lemmas.Bool.{cases_Bool, true≢false}
 use Rattle.std.proofs.lemmas.Bool.Decides.{nat_tests}
 use Rattle.std.proofs.lemmas.List.{length-map}
@@ -13,11 +13,10 @@ use Rattle.ms_ir.specs.declared.inst.Entry.{Entry}
 use Rattle.ms_ir.specs.declared.inst.Inst.{Inst}
 use Rattle.ms_ir.specs.declared.inst.Inst.TheVariants.{Alloca, Gep, Load, Store, Copy, Call, Bin, Cmp, Select, Cast, Phi}
 use Rattle.ms_ir.specs.declared.inst.Term.{Term}
-use Rattle.ms_ir.specs.Func.{Placed, Block, FuncState, insts_at, no_block}
+use Rattle.ms_ir.specs.Func.{Placed, Block, FuncState, insts_at}
 use Rattle.ms_ir.specs.Graph.{graph_of, successors, numbers}
 use Rattle.ms_ir.specs.Inst.{has_result}
 use Rattle.ms_ir.specs.Locals.{HasType, IsGiver, IsNumbered}
-use Rattle.ms_ir.specs.Types.{is_phi}
 use Rattle.ms_ir.specs.Uses.{Operand, Use, operands_of, term_operands, used_at, entry_use, uses_at, term_uses_at}
 use Rattle.ms_ir.specs.Sound.{IsUsedBefore, edges_between, times_in, HasBadEntries}
 use Rattle.ms_ir.specs.SoundFunc.{IsValueIn, AreValues, AreBehind, IsAmongPhis, IsSoundInst, IsSoundTerm, IsSoundFunc}
@@ -28,7 +27,7 @@ use Rattle.ms_alias.specs.declared.loc.Root.{Root}
 use Rattle.ms_alias.specs.Reaches.{Span, IsWritten}
 use Rattle.ms_meaning.proofs.LastEvents.{events_at}
 use Rattle.ms_live.specs.Dead.{IsDead, is_kept, kept_in, kept_before, dse}
-use Rattle.ms_live.proofs.Kept.{insts_kept, term_kept, kept_at, first_kept, first_left, count_kept, count_left}
+use Rattle.ms_live.proofs.Kept.{one_inst, insts_kept, term_kept, kept_at, first_kept, first_left, count_kept, count_left}
 use Rattle.ms_live.proofs.Taken.{Stood, stood_in}
 
 -- a use at a place of the function, and the same use at its place among what is kept
@@ -141,9 +140,7 @@ none_given (Some l) e = absurd (true≢false e)
 dead_give_none : (f : FuncState) (dead : ℕ → Bool) → IsNumbered f → ((i : ℕ) → dead i ≡ true → IsDead f i) → (b k : ℕ) (x : Placed) → slice_get (insts_at f.blocks b) k ≡ Some x → dead x.number ≡ true → x.result ≡ None
 dead_give_none f dead numbered all b k x found gone =
     let h = all x.number gone in
-    let one = numbered.one_place h.block h.place b k h.inst x h.there.found found h.there.numbered in
-    let two : Some h.inst ≡ Some x = sym h.there.found ∙ ap (λ a. slice_get (insts_at f.blocks a) h.place) one.0 ∙ ap (slice_get (insts_at f.blocks b)) one.1 ∙ found in
-    let same : h.inst ≡ x = cc in
+    let same = (one_inst f numbered h.block h.place b k h.inst x h.there.found found h.there.numbered).2 in
     none_given x.result (numbered.gives b k x found ∙ spans_give_none f x.inst h.root h.from h.len (subst (λ (z : Placed). IsWritten f z.inst (Span h.root h.from h.len)) same h.writes))
 
 -- ---- the function
