@@ -80,3 +80,24 @@ written_to f origins (Store ty val ptr tail) u is h = span_to f origins ptr (siz
 written_to f origins (Copy to from len head tail) u is h = span_to f origins to.val len u is h
 written_to f origins (Call callee ret args effects head tail) u is h = ap Some (sym h)
 written_to f origins inst u is h = absurd h
+
+-- a value leads to one range of so many bytes
+one_span : (f : FuncState) (v : Val) (len : ℕ) (u w : Reach) → IsSpan f v len u → IsSpan f v len w → u ≡ w
+one_span f v len u w h k =
+    let same : Some h.0 ≡ Some k.0 = sym h.1 ∙ k.1 in
+    let is : h.0 ≡ k.0 = cc in
+    let one = one_root f k.0 h.2 k.2 h.3 k.3 (subst (λ p. HasRoot f p h.2 h.3) is h.4) k.4 in
+    h.5 ∙ ap (λ r. Span r h.3 len) one.0 ∙ ap (λ z. Span k.2 z len) one.1 ∙ sym k.5
+
+-- an instruction reads one reach, and writes one
+pub reach_read_once : (f : FuncState) (inst : Inst) (u w : Reach) → IsRead f inst u → IsRead f inst w → u ≡ w
+reach_read_once f (Load ty ptr tail) u w h k = one_span f ptr (size_of ty) u w h k
+reach_read_once f (Copy to from len head tail) u w h k = one_span f from.val len u w h k
+reach_read_once f (Call callee ret args effects head tail) u w h k = h ∙ sym k
+reach_read_once f inst u w h k = absurd h
+
+pub reach_written_once : (f : FuncState) (inst : Inst) (u w : Reach) → IsWritten f inst u → IsWritten f inst w → u ≡ w
+reach_written_once f (Store ty val ptr tail) u w h k = one_span f ptr (size_of ty) u w h k
+reach_written_once f (Copy to from len head tail) u w h k = one_span f to.val len u w h k
+reach_written_once f (Call callee ret args effects head tail) u w h k = h ∙ sym k
+reach_written_once f inst u w h k = absurd h

@@ -20,7 +20,7 @@ use Rattle.ms_live.specs.Live.{IsLeft, IsLive}
 use Rattle.ms_live.specs.Dead.{IsDead, AreDead}
 use Rattle.ms_live.specs.Columns.{HasColumns, IsBelow}
 use Rattle.ms_live.specs.Samples.{first_local, stores_four, makes_four, loads_one, copies_no_byte, stores_twice, loads_back, stores_to_own, copies_nothing}
-use Rattle.ms_live.proofs.Effects.{written_once}
+use Rattle.ms_alias.proofs.RootLemmas.{reach_written_once}
 use Rattle.ms_live.proofs.Backwards.{live_read, live_left, live_at, live_at_end}
 
 -- an instruction has one number
@@ -32,7 +32,7 @@ is_wanted : (f : FuncState) (i b j : ℕ) (x : Placed) (r : Root) (from k : ℤ)
     IsWritten f x.inst (Span r from len) → HoldsByte from len k → IsLive f r k b (j + 1) → IsDead f i → ⊥
 is_wanted f i b j x r from k len only writes among live h =
     let at = only h.block h.place h.inst h.there in
-    let same = written_once f x.inst (Span h.root h.from h.len) (Span r from len) (subst (λ (y : Placed). IsWritten f y.inst (Span h.root h.from h.len)) at.2 h.writes) writes in
+    let same = reach_written_once f x.inst (Span h.root h.from h.len) (Span r from len) (subst (λ (y : Placed). IsWritten f y.inst (Span h.root h.from h.len)) at.2 h.writes) writes in
     let root : r ≡ h.root = cc in
     let start : from ≡ h.from = cc in
     let size : len ≡ h.len = cc in
@@ -59,7 +59,7 @@ reads_none b j x u e read = let s = each_stores b j x e in subst (λ (z : Placed
 writes_four : (b j : ℕ) (x : Placed) (u : Reach) → slice_get (insts_at stores_twice.blocks b) j ≡ Some x → IsWritten stores_twice x.inst u → u ≡ Span first_local (pos 0) 4
 writes_four b j x u e written =
     let s = each_stores b j x e in
-    written_once stores_twice (stores_four s.0).inst u (Span first_local (pos 0) 4) (subst (λ (z : Placed). IsWritten stores_twice z.inst u) (sym s.2) written) (argument_span 4)
+    reach_written_once stores_twice (stores_four s.0).inst u (Span first_local (pos 0) 4) (subst (λ (z : Placed). IsWritten stores_twice z.inst u) (sym s.2) written) (argument_span 4)
 
 nothing_read : (i : ℕ) (loc : Loc) → MayRead stores_twice i loc → ⊥
 nothing_read i loc (b, place, y, at, u, v, read, is, meet) = reads_none b place y u at.found read
