@@ -9,4 +9,3 @@ pub mod Room
 pub mod Shapes
 pub mod Taken
 pub mod Near
-pub mod Begins

@@ -1,12 +1,10 @@
 -- Where lines are within limits, no getelementptr passes the greatest offset.
-use Rattle.std.proofs.Common.{◌≡◌, ◌<◌, ◌+◌, length, ℕ, zero, suc, ℤ, pos, Bool, true, false, List, [], ◌∷◌, ◌++◌, Option, Some, None, map, if◌then◌else◌, refl, sym, ap, subst, ◌∙◌, ⊎_elim}
+use Rattle.std.proofs.Common.{◌≡◌, ◌+◌, length, ℕ, suc, ℤ, Bool, true, false, List, [], ◌∷◌, ◌++◌, Option, Some, None, map, if◌then◌else◌, sym, subst}
 use Rattle.std.specs.List.{flat_map}
-use Rattle.std.proofs.lemmas.Bool.{cases_Bool}
 use Rattle.ms_ir.specs.declared.names.LocalNo.{LocalNo}
-use Rattle.ms_ir.specs.Func.{FuncState, Placed}
 use Rattle.ms_grammar.specs.Kept.{Each}
 use Rattle.ms_grammar.specs.Grammar.{kept_of}
-use Rattle.ms_grammar.specs.Limits.{IsSmall, IsSmallInst, IsWithinLimits}
+use Rattle.ms_grammar.specs.Limits.{IsSmall, IsSmallInst}
 use Rattle.ms_grammar.specs.declared.line.Line.{Line}
 use Rattle.ms_grammar.specs.declared.line.Line.TheVariants as said
 use Rattle.ms_grammar.specs.declared.line.RawInst.{RawInst}
@@ -14,7 +12,7 @@ use Rattle.ms_grammar.specs.declared.line.RawInst.TheVariants as raw
 use Rattle.ms_line.specs.Sorts.{sort_of}
 use Rattle.ms_read.specs.Places.{is_blank}
 use Rattle.ms_read.specs.Draft.{Say, said as said_at, numbered, IsDraft}
-use Rattle.ms_resolve.specs.Shape.{InstLine, BlockLines, FuncLines, ItemLines, label_lines, inst_line, block_lines, func_lines}
+use Rattle.ms_resolve.specs.Shape.{InstLine, BlockLines, FuncLines, label_lines, inst_line, block_lines, func_lines}
 use Rattle.ms_resolve.specs.Scope.{Scope, value_of, inst_of, placed_at, local_behind, locals_behind, insts_from, blocks_from, func_of}
 use Rattle.ms_alias.specs.declared.loc.Root.{Root}
 use Rattle.ms_alias.specs.Roots.{Maker, Step, step_by, step_in, step_by_maker, makes, maker_in, maker_from, or_else, pointer_of}

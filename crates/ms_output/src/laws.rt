@@ -6,6 +6,7 @@ ghost use Rattle.ms_grammar.specs.declared.line.Line.{Line};
 ghost use Rattle.ms_read.specs.Draft.{IsDraft};
 ghost use Rattle.ms_valid.specs.Cause.{IsAccepted};
 ghost use Rattle.ms_sound.specs.Bytes.{BeginsOnce};
+ghost use Rattle.ms_accepted.specs.Func.{IsAcceptedFunc};
 ghost use Rattle.ms_output.specs.Output.{IsOutput, IsRefusal};
 ghost use Rattle.ms_output.specs.declared.refusal.Refusal.{Refusal};
 ghost use Rattle.ms_output.specs.declared.wanted.Wanted.{Wanted};
@@ -21,11 +22,14 @@ pub fn one_output()
 }
 
 /// In the functions of an accepted module allocas stand in the first block, to which no edge leads. So what is said of clobbers on every run
-/// holds of each of them.
+/// holds of each of them. And each is accepted by itself, so it is sound: what is said of runs of sound functions holds of it too.
 pub fn accepted_begin_once()
-    ensures { (bytes : List ℕ) (draft : List (ℕ × Line)) (m : ModuleState) → IsDraft bytes draft → IsAccepted draft m →
+    ensures once { (bytes : List ℕ) (draft : List (ℕ × Line)) (m : ModuleState) → IsDraft bytes draft → IsAccepted draft m →
         (n : ℕ) (f : FuncState) → slice_get m.bodies n ≡ Some (Some f) → BeginsOnce f }
+    ensures accepted { (bytes : List ℕ) (draft : List (ℕ × Line)) (m : ModuleState) → IsDraft bytes draft → IsAccepted draft m →
+        (n : ℕ) (f : FuncState) → slice_get m.bodies n ≡ Some (Some f) → IsAcceptedFunc m f }
 {
-    ms_read::draft_told();
-    ms_read::places_told();
+    ms_accepted::accepted_are_sound();
+    ms_accepted::functions_are_accepted();
+    ms_sound::sound_functions_begin_once();
 }

@@ -1,7 +1,6 @@
 // From the bytes of a file to what is written for them.
-ghost use Rattle.std.specs.Prelude.{◌≡◌, ◌≤◌, List, [], length};
-ghost use Rattle.ms_resolve.specs.Shape.{ItemLines, IsShape};
-ghost use Rattle.ms_output.specs.Forms.{AreSmall};
+ghost use Rattle.std.specs.Prelude.{◌≡◌, ◌≤◌, ℕ, List, [], length};
+ghost use Rattle.ms_read.specs.Draft.{IsDraft};
 ghost use Rattle.ms_output.specs.Output.{limit, refusal_at, read_refusal, valid_refusal};
 ghost use Rattle.ms_output.specs.Told.{Renders, RendersDraft, IsTold, IsToldOf};
 
@@ -66,12 +65,14 @@ fn unaccepted(alloc: Global, draft: &Draft, fault: ValidFault) -> Unwritten
     }
 }
 
-// What is written for a draft.
+// What is written for the draft of some bytes.
 fn render_draft(alloc: Global, wanted: Wanted, draft: &Draft) -> Result<Text, Unwritten>
-    requires shape { (items : List ItemLines) × IsShape draft.now items }
-    requires small { AreSmall draft.now }
+    requires { (bytes : List ℕ) × IsDraft bytes draft.now }
     ensures { RendersDraft wanted draft.now result }
 {
+    ms_read::draft_told();
+    ms_read::places_told();
+    ms_accepted::accepted_are_sound();
     let mut module = match accept(alloc, draft) {
         Ok(module) => module,
         Err(fault) => return Err(unaccepted(alloc, draft, fault)),
@@ -93,8 +94,6 @@ pub fn render(alloc: Global, wanted: Wanted, bytes: &[u8]) -> Result<Text, Unwri
     requires { length bytes.now ≤ limit }
     ensures { Renders wanted bytes.now result }
 {
-    ms_read::draft_told();
-    ms_read::places_told();
     match read_module(alloc, bytes) {
         Ok(draft) => render_draft(alloc, wanted, &draft),
         Err(fault) => Err(unread(alloc, fault)),
