@@ -1,5 +1,5 @@
-//! Tests of functions: instructions and blocks, flow graphs, memory forms, the search in them, pointers, sessions, values in runs. They
-//! stand apart, since a crate with tests is proved twice.
+//! Tests of functions: instructions and blocks, flow graphs, memory forms, the search in them, edits of them, values in runs. They stand
+//! apart, since a crate with tests is proved twice; tests of pointers and sessions stand in `ms_test_pointers`.
 #![tactic(auto)]
 
 #[cfg(test)]
@@ -13,12 +13,8 @@ mod form;
 #[cfg(test)]
 mod functions;
 #[cfg(test)]
-mod graph;
-#[cfg(test)]
 mod modules;
 #[cfg(test)]
-mod pointers;
-#[cfg(test)]
-mod session;
+mod update;
 #[cfg(test)]
 mod values;
