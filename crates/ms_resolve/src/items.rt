@@ -1,22 +1,20 @@
 // A module from its lines.
-ghost use Rattle.std.specs.Prelude.{◌≡◌, ◌<◌, ◌-◌, ◌^◌, [], length, map, OnOk, IfOk};
+ghost use Rattle.std.specs.Prelude.{◌≡◌, ◌<◌, ◌+◌, ◌-◌, ◌^◌, [], length, map, OnOk, IfOk};
 ghost use Rattle.ms_ir.specs.Module.{IsNew};
 ghost use Rattle.ms_grammar.specs.Form.{printed};
 ghost use Rattle.ms_resolve.specs.Meaning.{keeps_in};
 ghost use Rattle.ms_resolve.specs.Scope.{mark_of};
-ghost use Rattle.ms_resolve.specs.Draft.{body_lines};
+ghost use Rattle.ms_names.specs.Draft.{body_lines};
 ghost use Rattle.ms_resolve.specs.Build.{bare, groups_with, groups_after, sig_by, sigs_with, sigs_after, body_in, with_declared, with_defined, module_with, module_after, bare_module, no_module, bodies_with, bodies_after, IsLineNew, AreNew};
 ghost use Rattle.ms_resolve.specs.Context.{outer_by};
 
 use crate::body::{func_of, numbers_of};
 use crate::meaning::effects_of;
 use crate::reader::{Reader, copy, keeps_under};
-use crate::register::register_of;
 use crate::resolved::BodyLines;
-use crate::symbols::Symbols;
-use crate::uses::body_of;
 use ms_grammar::{Head, Line, write_line};
 use ms_ir::{Func, Groups, Items, Mark, Marks, Module, NoMemory, Param, Sig, Text};
+use ms_names::{Symbols, body_of, register_of};
 use std::alloc::Global;
 
 fn add_group(alloc: Global, groups: &mut Groups, line: &Line) -> Result<(), NoMemory>
@@ -65,9 +63,9 @@ fn sig_of(alloc: Global, groups: &Groups, head: &Head) -> Result<Sig, NoMemory>
 {
     Ok(Sig {
         ret: head.ret,
-        params: marks_of(alloc, head.params.as_slice())?,
         variadic: head.variadic,
         effects: effects_of(alloc, &head.post, groups)?,
+        params: marks_of(alloc, head.params.as_slice())?,
     })
 }
 
@@ -137,9 +135,9 @@ impl<'s, 'a> Context<'s, 'a> {
         ensures { OnOk result (bare_module module.new ≡ with_defined (bare_module module.old) head.now.name (sig_by self.now.groups.now head.now)
             (body_in (outer_by self.now) n head.now (body_lines rest.now))) }
     {
-        let func = self.body(n, head, body_of(rest))?;
-        let sig = sig_of(self.alloc, self.groups, head)?;
         let name = copy(self.alloc, &head.name)?;
+        let sig = sig_of(self.alloc, self.groups, head)?;
+        let func = self.body(n, head, body_of(rest))?;
         add_body(module, name, sig, func)?;
         Ok(())
     }
@@ -149,10 +147,10 @@ impl<'s, 'a> Context<'s, 'a> {
         requires few { length module.old.items < 2 ^ 32 - 1 }
         ensures { OnOk result (bare_module module.new ≡ with_declared (bare_module module.old) head.now.name (sig_by self.now.groups.now head.now) (printed line.now)) }
     {
-        let sig = sig_of(self.alloc, self.groups, head)?;
         let name = copy(self.alloc, &head.name)?;
         let mut text = Text::new(self.alloc);
         write_line(line, &mut text)?;
+        let sig = sig_of(self.alloc, self.groups, head)?;
         module.add_declared(name, sig, text)?;
         Ok(())
     }
@@ -180,6 +178,17 @@ impl<'s, 'a> Context<'s, 'a> {
         Ok(())
     }
 
+    fn add_lines(&self, module: &mut Module, lines: &[(u32, Line)]) -> Result<(), NoMemory>
+        requires new { AreNew module.old.names lines.now }
+        requires few { length module.old.items + length lines.now < 2 ^ 32 - 1 }
+        ensures { OnOk result (bare_module module.new ≡ module_after (outer_by self.now) (bare_module module.old) lines.now) }
+    {
+        for (at, (n, line)) in lines.iter().enumerate() {
+            self.add_line(module, *n, line, &lines[at + 1..])?;
+        }
+        Ok(())
+    }
+
     // The module of the lines.
     pub(crate) fn module(&self, lines: &[(u32, Line)]) -> Result<Module, NoMemory>
         requires new { AreNew (no_module []).names lines.now }
@@ -187,9 +196,7 @@ impl<'s, 'a> Context<'s, 'a> {
         ensures { IfOk result (λ m. bare_module m ≡ module_after (outer_by self.now) (no_module (groups_after [] lines.now)) lines.now) }
     {
         let mut module = Module::new(self.alloc, groups_of(self.alloc, lines)?);
-        for (at, (n, line)) in lines.iter().enumerate() {
-            self.add_line(&mut module, *n, line, &lines[at + 1..])?;
-        }
+        self.add_lines(&mut module, lines)?;
         Ok(module)
     }
 }
