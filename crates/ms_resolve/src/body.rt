@@ -26,10 +26,9 @@ fn shell_line(reader: &Reader, func: &mut Func, line: &Line) -> Result<(), NoMem
     ensures { OnOk result (func.new ≡ shell_line (scope_by reader.now) func.old line.now) }
 {
     match line {
-        Line::Term(term) => add_shell(reader, func, term)?,
-        _ => {}
+        Line::Term(term) => add_shell(reader, func, term),
+        _ => Ok(()),
     }
-    Ok(())
 }
 
 // The blocks, each with its terminator.
@@ -61,10 +60,9 @@ fn inst_line(reader: &Reader, func: &mut Func, b: u32, line: &Line) -> Result<()
     ensures { OnOk result (bare func.new ≡ inst_line (scope_by reader.now) b func.old line.now) }
 {
     match line {
-        Line::Inst(_, inst) => add_inst(reader, func, b, inst)?,
-        _ => {}
+        Line::Inst(_, inst) => add_inst(reader, func, b, inst),
+        _ => Ok(()),
     }
-    Ok(())
 }
 
 // The block of the next line.
@@ -140,11 +138,10 @@ impl BodyLines {
         ensures { OnOk result (self.new ≡ numbers_with self.old n line.now) }
     {
         match line {
-            Line::Inst(..) => self.insts.push(n)?,
-            Line::Term(_) => self.terms.push(n)?,
-            _ => {}
+            Line::Inst(..) => self.insts.push(n),
+            Line::Term(_) => self.terms.push(n),
+            _ => Ok(()),
         }
-        Ok(())
     }
 }
 

@@ -5,7 +5,7 @@ ghost use Rattle.ms_grammar.specs.Form.{printed};
 ghost use Rattle.ms_resolve.specs.Meaning.{keeps_in};
 ghost use Rattle.ms_resolve.specs.Scope.{mark_of};
 ghost use Rattle.ms_names.specs.Draft.{body_lines};
-ghost use Rattle.ms_resolve.specs.Build.{bare, groups_with, groups_after, sig_by, sigs_with, sigs_after, body_in, with_declared, with_defined, module_with, module_after, bare_module, no_module, bodies_with, bodies_after, IsLineNew, AreNew};
+ghost use Rattle.ms_resolve.specs.Build.{bare, groups_with, groups_after, sig_by, sigs_with, sigs_after, body_in, with_kept, with_global_item, with_declared, with_defined, module_with, module_after, bare_module, no_module, bodies_with, bodies_after, IsLineNew, AreNew};
 ghost use Rattle.ms_resolve.specs.Context.{outer_by};
 
 use crate::body::{func_of, numbers_of};
@@ -21,10 +21,9 @@ fn add_group(alloc: Global, groups: &mut Groups, line: &Line) -> Result<(), NoMe
     ensures { OnOk result (groups.new ≡ groups_with groups.old line.now) }
 {
     match line {
-        Line::Group(number, text) => groups.push((*number, copy(alloc, text)?))?,
-        _ => {}
+        Line::Group(number, text) => groups.push((*number, copy(alloc, text)?)),
+        _ => Ok(()),
     }
-    Ok(())
 }
 
 // The groups in the order of their lines.
@@ -78,10 +77,9 @@ fn add_sig(
     ensures { OnOk result (sigs.new ≡ sigs_with groups.now sigs.old line.now) }
 {
     match line {
-        Line::Declare(head) | Line::Define(head) => sigs.push(sig_of(alloc, groups, head)?)?,
-        _ => {}
+        Line::Declare(head) | Line::Define(head) => sigs.push(sig_of(alloc, groups, head)?),
+        _ => Ok(()),
     }
-    Ok(())
 }
 
 // What the functions' lines say, in their order.
@@ -121,6 +119,24 @@ impl<'s, 'a> Context<'s, 'a> {
             groups: self.groups,
         };
         func_of(&reader, head, body)
+    }
+
+    fn kept(&self, module: &mut Module, text: &Text) -> Result<(), NoMemory>
+        requires few { length module.old.items < 2 ^ 32 - 1 }
+        ensures { OnOk result (bare_module module.new ≡ with_kept (bare_module module.old) text.now) }
+    {
+        module.add_kept(copy(self.alloc, text)?)
+    }
+
+    fn global(&self, module: &mut Module, name: &Text, text: &Text) -> Result<(), NoMemory>
+        requires new { IsNew module.old.names name.now }
+        requires few { length module.old.items < 2 ^ 32 - 1 }
+        ensures { OnOk result (bare_module module.new ≡ with_global_item (bare_module module.old) name.now text.now) }
+    {
+        let name = copy(self.alloc, name)?;
+        let text = copy(self.alloc, text)?;
+        module.add_global(name, text)?;
+        Ok(())
     }
 
     fn define(
@@ -167,15 +183,12 @@ impl<'s, 'a> Context<'s, 'a> {
         ensures { OnOk result (bare_module module.new ≡ module_with (outer_by self.now) (bare_module module.old) n line.now rest.now) }
     {
         match line {
-            Line::Kept(text) | Line::Group(_, text) => module.add_kept(copy(self.alloc, text)?)?,
-            Line::GlobalVar(name, text) => {
-                module.add_global(copy(self.alloc, name)?, copy(self.alloc, text)?)?;
-            }
-            Line::Declare(head) => self.declare(module, head, line)?,
-            Line::Define(head) => self.define(module, n, head, rest)?,
-            _ => {}
+            Line::Kept(text) | Line::Group(_, text) => self.kept(module, text),
+            Line::GlobalVar(name, text) => self.global(module, name, text),
+            Line::Declare(head) => self.declare(module, head, line),
+            Line::Define(head) => self.define(module, n, head, rest),
+            _ => Ok(()),
         }
-        Ok(())
     }
 
     fn add_lines(&self, module: &mut Module, lines: &[(u32, Line)]) -> Result<(), NoMemory>
@@ -222,10 +235,9 @@ fn add_numbers(
     ensures { OnOk result (bodies.new ≡ bodies_with bodies.old line.now rest.now) }
 {
     match line {
-        Line::Define(_) => bodies.push(numbers_of(alloc, body_of(rest))?)?,
-        _ => {}
+        Line::Define(_) => bodies.push(numbers_of(alloc, body_of(rest))?),
+        _ => Ok(()),
     }
-    Ok(())
 }
 
 // The lines of the functions with a body.

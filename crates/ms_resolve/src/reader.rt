@@ -32,7 +32,7 @@ pub(crate) struct Reader<'s, 'a> {
 pub(crate) fn copy(alloc: Global, text: &Text) -> Result<Text, NoMemory>
     ensures { IfOk result (λ t. t ≡ text.now) }
 {
-    Ok(Text::from_bytes(alloc, text.bytes())?)
+    Text::from_bytes(alloc, text.bytes())
 }
 
 fn copy_name(alloc: Global, name: &Name) -> Result<Name, NoMemory>
@@ -50,7 +50,7 @@ pub(crate) fn name_at(alloc: Global, names: &[Name], at: u64) -> Result<Name, No
 {
     let at = at as usize;
     if at < names.len() {
-        return Ok(copy_name(alloc, &names[at])?);
+        return copy_name(alloc, &names[at]);
     }
     Ok(Name::Absent)
 }
@@ -81,7 +81,7 @@ fn ends(alloc: Global, post: &Text, tail: &Text) -> Result<Text, NoMemory>
 {
     let bytes = post.bytes();
     if bytes.is_empty() {
-        return Ok(copy(alloc, tail)?);
+        return copy(alloc, tail);
     }
     let mut out = Vec::new(alloc);
     out.push(b' ')?;
@@ -223,7 +223,7 @@ impl<'s, 'a> Reader<'s, 'a> {
     fn func(&self, callee: &Name) -> Result<u32, NoMemory>
         ensures { IfOk result (λ f. f ≡ number_of_word (scope_by self.now).funcs (name_text callee.now)) }
     {
-        Ok(small(symbol_place(&self.symbols.funcs, callee))?)
+        small(symbol_place(&self.symbols.funcs, callee))
     }
 
     // In each line what is only a number comes first and the texts behind it, since what was made before a step that fails has to be
@@ -511,17 +511,31 @@ impl<'s, 'a> Reader<'s, 'a> {
         }
     }
 
+    fn cond_br(
+        &self,
+        cond: &RawVal,
+        if_true: &Name,
+        if_false: &Name,
+        tail: &Text,
+    ) -> Result<Term, NoMemory>
+        ensures { IfOk result (λ t. t ≡ Term.CondBr (value_of (scope_by self.now) cond.now) (block_of (scope_by self.now) if_true.now) (block_of (scope_by self.now) if_false.now) tail.now) }
+    {
+        Ok(Term::CondBr(
+            self.value(cond)?,
+            self.block(if_true)?,
+            self.block(if_false)?,
+            copy(self.alloc, tail)?,
+        ))
+    }
+
     pub(crate) fn term(&self, term: &RawTerm) -> Result<Term, NoMemory>
         ensures { IfOk result (λ t. t ≡ term_of (scope_by self.now) term.now) }
     {
         match term {
             RawTerm::Br(to, tail) => Ok(Term::Br(self.block(to)?, copy(self.alloc, tail)?)),
-            RawTerm::CondBr(cond, if_true, if_false, tail) => Ok(Term::CondBr(
-                self.value(cond)?,
-                self.block(if_true)?,
-                self.block(if_false)?,
-                copy(self.alloc, tail)?,
-            )),
+            RawTerm::CondBr(cond, if_true, if_false, tail) => {
+                self.cond_br(cond, if_true, if_false, tail)
+            }
             RawTerm::Ret(given, tail) => Ok(Term::Ret(self.given(given)?, copy(self.alloc, tail)?)),
             RawTerm::Unreachable(tail) => Ok(Term::Unreachable(copy(self.alloc, tail)?)),
         }
@@ -532,7 +546,7 @@ impl<'s, 'a> Reader<'s, 'a> {
         ensures { IfOk result (λ n. n ≡ result_name (scope_by self.now) inst.now next) }
     {
         if makes(inst) {
-            return Ok(name_at(self.alloc, self.register.locals.names(), next)?);
+            return name_at(self.alloc, self.register.locals.names(), next);
         }
         Ok(Name::Absent)
     }
