@@ -12,8 +12,8 @@ use Rattle.ms_grammar.specs.declared.line.Line.{Line}
 use Rattle.ms_grammar.specs.declared.line.Line.TheVariants as said
 use Rattle.ms_grammar.specs.declared.line.RawInst.{RawInst}
 use Rattle.ms_grammar.specs.declared.line.RawInst.TheVariants.{Alloca, Gep, Load, Store, Copy, Call, Bin, Cmp, Select, Cast, Phi}
-use Rattle.ms_resolve.specs.Shape.{LabelLine, InstLine, BlockLines, FuncLines, inst_line, label_lines, block_lines}
-use Rattle.ms_resolve.specs.Made.{makes}
+use Rattle.ms_names.specs.Shape.{LabelLine, InstLine, BlockLines, FuncLines, inst_line, label_lines, block_lines}
+use Rattle.ms_names.specs.Made.{makes}
 use Rattle.ms_resolve.specs.Scope.{Scope, inst_of, term_of, placed_at, local_behind, insts_from, locals_behind, blocks_from, all_made, all_locals, params_from, func_of}
 use Rattle.ms_resolve.specs.Build.{with_shell, shell_line, shells_after, result_name, with_inst, insts_after, head_in, func_in}
 

@@ -1,14 +1,8 @@
-pub mod PlaceLemmas
 pub mod BuildLemmas
-pub mod Folds
-pub mod Least
-pub mod Members
-pub mod Registers
-pub mod SymbolFacts
-pub mod UseFacts
-pub mod FaultFacts
 pub mod FuncFacts
 pub mod ModuleFacts
 pub mod NewFacts
 pub mod RoomFacts
 pub mod ResolveFacts
+pub use Rattle.ms_names.proofs.Members
+pub use Rattle.ms_names.proofs.PlaceLemmas

@@ -12,20 +12,20 @@ use Rattle.ms_grammar.specs.Form.{printed}
 use Rattle.ms_grammar.specs.declared.line.Head.{Head}
 use Rattle.ms_grammar.specs.declared.line.Line.{Line}
 use Rattle.ms_grammar.specs.declared.line.Line.TheVariants as said
-use Rattle.ms_resolve.specs.Shape.{LabelLine, InstLine, BlockLines, FuncLines, ItemLines, plain, body, inst_line, label_lines, block_lines, item_lines, HasBlocks, stands_outside, IsItem}
-use Rattle.ms_resolve.specs.Made.{made_in, locals_of, blocks_of}
+use Rattle.ms_names.specs.Shape.{LabelLine, InstLine, BlockLines, FuncLines, ItemLines, plain, body, inst_line, label_lines, block_lines, item_lines, HasBlocks, stands_outside, IsItem}
+use Rattle.ms_names.specs.Made.{made_in, locals_of, blocks_of}
 use Rattle.ms_resolve.specs.Meaning.{effects_in, keeps_in}
 use Rattle.ms_resolve.specs.Scope.{Scope, func_of}
 use Rattle.ms_resolve.specs.Module.{group_of, groups_of, func_names_in, global_names_in, sigs_in, items_from, scope_of, bodies_in, module_of, line_of_inst, inst_lines_in, term_line_of, funcs_of}
 use Rattle.ms_resolve.specs.Cause.{lines_of_body}
-use Rattle.ms_resolve.specs.Draft.{symbols_after, no_symbols, register_in, register_all, no_names}
+use Rattle.ms_names.specs.Draft.{symbols_after, no_symbols, register_in, register_all, no_names}
 use Rattle.ms_resolve.specs.Build as build
 use Rattle.ms_resolve.specs.Build.{Outer, scope_with, numbers_after, no_numbers, groups_with, groups_after, sig_by, sigs_with, sigs_after, with_kept, with_global_item, with_declared, with_defined, module_with, module_after, no_module, bodies_with, bodies_after, built}
-use Rattle.ms_resolve.specs.declared.register.Register.{Register}
+use Rattle.ms_names.specs.declared.register.Register.{Register}
 use Rattle.ms_resolve.specs.declared.resolved.BodyLines.{BodyLines}
-use Rattle.ms_resolve.proofs.Folds.{is_inner, items_after, IsFold, along_items}
-use Rattle.ms_resolve.proofs.Registers.{register_is, locals_all, blocks_all_named}
-use Rattle.ms_resolve.proofs.SymbolFacts.{funcs_are, globals_are}
+use Rattle.ms_names.proofs.Folds.{is_inner, items_after, IsFold, along_items}
+use Rattle.ms_names.proofs.Registers.{register_is, locals_all, blocks_all_named}
+use Rattle.ms_names.proofs.SymbolFacts.{funcs_are, globals_are}
 use Rattle.ms_resolve.proofs.FuncFacts.{func_is}
 
 append_none : {X : Type 0} (xs : List X) → xs ≡ xs ++ []

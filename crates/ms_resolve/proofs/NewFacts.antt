@@ -6,14 +6,14 @@ use Rattle.ms_ir.specs.Symbols.{NamesState, NotNamed}
 use Rattle.ms_grammar.specs.Kept.{Each}
 use Rattle.ms_grammar.specs.declared.line.Line.{Line}
 use Rattle.ms_grammar.specs.declared.line.Line.TheVariants as said
-use Rattle.ms_resolve.specs.Shape.{ItemLines, plain, body, block_lines, item_lines, stands_outside, IsItem}
-use Rattle.ms_resolve.specs.Faults.{Symbol, symbols_of, name_of_symbol, IsSymbolAgain}
-use Rattle.ms_resolve.specs.Places.{is_word_there}
+use Rattle.ms_names.specs.Shape.{ItemLines, plain, body, block_lines, item_lines, stands_outside, IsItem}
+use Rattle.ms_names.specs.Faults.{Symbol, symbols_of, name_of_symbol, IsSymbolAgain}
+use Rattle.ms_names.specs.Places.{is_word_there}
 use Rattle.ms_resolve.specs.Build.{line_new, IsLineNew, AreNew}
-use Rattle.ms_resolve.proofs.Folds.{is_inner, AreInner, inner-blocks}
-use Rattle.ms_resolve.proofs.Members.{Among, get_among, among_append, among_left, among_right, map_among, word_there_any}
-use Rattle.ms_resolve.proofs.Least.{run, FaultAlong}
-use Rattle.ms_resolve.proofs.SymbolFacts.{known_step, is_known, symbol_line, run_names, known_again}
+use Rattle.ms_names.proofs.Folds.{is_inner, AreInner, inner-blocks}
+use Rattle.ms_names.proofs.Members.{Among, get_among, among_append, among_left, among_right, map_among, word_there_any}
+use Rattle.ms_names.proofs.Least.{run, FaultAlong}
+use Rattle.ms_names.proofs.SymbolFacts.{known_step, is_known, symbol_line, run_names, known_again}
 
 abbrev pub NoneAgain : List Symbol → Type 0
 NoneAgain ms = (n : ℕ) → IsSymbolAgain ms n → ⊥

@@ -4,19 +4,19 @@ use Rattle.std.specs.List.{flat_map}
 use Rattle.ms_ir.specs.Symbols.{AreDistinct}
 use Rattle.ms_attrs.proofs.MeaningLemmas.{some_effects, some_keeps}
 use Rattle.ms_grammar.specs.declared.line.Line.{Line}
-use Rattle.ms_resolve.specs.Shape.{ItemLines, item_lines, IsShape}
-use Rattle.ms_resolve.specs.Faults.{HasNameFault, symbol, symbols_of}
+use Rattle.ms_names.specs.Shape.{ItemLines, item_lines, IsShape}
+use Rattle.ms_names.specs.Faults.{HasNameFault, symbol, symbols_of}
 use Rattle.ms_resolve.specs.Meaning.{effects_in, keeps_in}
 use Rattle.ms_resolve.specs.Scope.{Meaning}
 use Rattle.ms_resolve.specs.Module.{groups_of, func_names_in}
 use Rattle.ms_resolve.specs.Cause.{IsLeastFault, IsResolved}
-use Rattle.ms_resolve.specs.Draft.{symbols_after, no_symbols}
-use Rattle.ms_resolve.specs.Uses.{least_after}
+use Rattle.ms_names.specs.Draft.{symbols_after, no_symbols}
+use Rattle.ms_names.specs.Uses.{least_after}
 use Rattle.ms_resolve.specs.Build.{AreNew, bare_module, bodies_after, built}
-use Rattle.ms_resolve.specs.declared.symbols.Symbols.{Symbols}
+use Rattle.ms_names.specs.declared.symbols.Symbols.{Symbols}
 use Rattle.ms_resolve.specs.declared.resolved.Resolved.{Resolved}
-use Rattle.ms_resolve.proofs.Least.{IsLeastOf}
-use Rattle.ms_resolve.proofs.FaultFacts.{module_least, module_least_is}
+use Rattle.ms_names.proofs.Least.{IsLeastOf}
+use Rattle.ms_names.proofs.FaultFacts.{module_least, module_least_is}
 use Rattle.ms_resolve.proofs.ModuleFacts.{built_is, bodies_are}
 use Rattle.ms_resolve.proofs.NewFacts.{NoneAgain, are_new}
 use Rattle.ms_resolve.proofs.RoomFacts.{room_in, room_is}

@@ -12,11 +12,11 @@ use Rattle.ms_ir.specs.Symbols.{AreDistinct}
 use Rattle.ms_grammar.specs.Kept.{Each}
 use Rattle.ms_grammar.specs.declared.line.Line.{Line}
 use Rattle.ms_grammar.specs.declared.line.Line.TheVariants as said
-use Rattle.ms_resolve.specs.Shape.{FuncLines, ItemLines, plain, body, stands_outside, IsItem}
+use Rattle.ms_names.specs.Shape.{FuncLines, ItemLines, plain, body, stands_outside, IsItem}
 use Rattle.ms_resolve.specs.Scope.{Scope, func_of}
 use Rattle.ms_resolve.specs.Module.{func_names_in, bodies_in, scope_of, module_of}
 use Rattle.ms_resolve.specs.Build.{bare, bare_module}
-use Rattle.ms_resolve.proofs.Members.{Among, among_in}
+use Rattle.ms_names.proofs.Members.{Among, among_in}
 
 abbrev pub room_of : Option FuncState → ℕ
 room_of None = 0

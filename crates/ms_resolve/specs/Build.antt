@@ -14,12 +14,12 @@ use Rattle.ms_grammar.specs.declared.line.Line.{Line}
 use Rattle.ms_grammar.specs.declared.line.Line.TheVariants as said
 use Rattle.ms_grammar.specs.declared.line.RawInst.{RawInst}
 use Rattle.ms_grammar.specs.declared.line.RawTerm.{RawTerm}
-use Rattle.ms_resolve.specs.Made.{makes}
+use Rattle.ms_names.specs.Made.{makes}
 use Rattle.ms_resolve.specs.Meaning.{effects_in, keeps_in}
 use Rattle.ms_resolve.specs.Scope.{Scope, inst_of, term_of, params_from, sig_in}
-use Rattle.ms_resolve.specs.Draft.{register_in, body_lines}
-use Rattle.ms_resolve.specs.declared.register.Register.{Register}
-use Rattle.ms_resolve.specs.declared.symbols.Symbols.{Symbols}
+use Rattle.ms_names.specs.Draft.{register_in, body_lines}
+use Rattle.ms_names.specs.declared.register.Register.{Register}
+use Rattle.ms_names.specs.declared.symbols.Symbols.{Symbols}
 use Rattle.ms_resolve.specs.declared.resolved.BodyLines.{BodyLines}
 
 -- what lines are read under

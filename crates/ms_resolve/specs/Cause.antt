@@ -1,8 +1,8 @@
 -- What resolving the names of a draft's lines tells.
 use Rattle.std.specs.Prelude.{◌≡◌, ◌<◌, ◌-◌, ◌^◌, ℕ, List, length, map}
 use Rattle.ms_grammar.specs.declared.line.Line.{Line}
-use Rattle.ms_resolve.specs.Shape.{FuncLines, ItemLines, IsShape}
-use Rattle.ms_resolve.specs.Faults.{HasNameFault}
+use Rattle.ms_names.specs.Shape.{FuncLines, ItemLines, IsShape}
+use Rattle.ms_names.specs.Faults.{HasNameFault}
 use Rattle.ms_resolve.specs.Module.{IsModuleOf, funcs_of, inst_lines_of, term_lines_of}
 use Rattle.ms_resolve.specs.declared.fault.NameFault.{NameFault}
 use Rattle.ms_resolve.specs.declared.fault.NameFault.TheVariants.{Name, Memory}

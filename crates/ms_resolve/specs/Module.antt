@@ -10,8 +10,9 @@ use Rattle.ms_ir.specs.Module.{ModuleState}
 use Rattle.ms_ir.specs.Symbols.{NamesState}
 use Rattle.ms_grammar.specs.Form.{printed}
 use Rattle.ms_grammar.specs.declared.line.Line.TheVariants as said
-use Rattle.ms_resolve.specs.Shape.{InstLine, BlockLines, FuncLines, ItemLines, plain, body}
-use Rattle.ms_resolve.specs.Made.{locals_of, blocks_of}
+use Rattle.ms_names.specs.Shape.{InstLine, BlockLines, FuncLines, ItemLines, plain, body}
+pub use Rattle.ms_names.specs.Faults.{func_names_in, global_names_in}
+use Rattle.ms_names.specs.Made.{locals_of, blocks_of}
 use Rattle.ms_resolve.specs.Scope.{Meaning, Scope, sig_in, func_of}
 
 -- the groups, in the order of their lines
@@ -21,16 +22,6 @@ group_of _ = []
 
 abbrev pub groups_of : List ItemLines → List (ℕ × List ℕ)
 groups_of items = flat_map group_of items
-
--- the names of functions, and of globals, in the order of their lines
-abbrev pub func_names_in : ItemLines → List (List ℕ)
-func_names_in (plain n (said.Declare head)) = head.name ∷ []
-func_names_in (plain n _) = []
-func_names_in (body f) = f.head.name ∷ []
-
-abbrev pub global_names_in : ItemLines → List (List ℕ)
-global_names_in (plain n (said.GlobalVar name text)) = name ∷ []
-global_names_in _ = []
 
 abbrev pub names_of : List ItemLines → NamesState
 names_of items = record { funcs = flat_map func_names_in items; globals = flat_map global_names_in items }

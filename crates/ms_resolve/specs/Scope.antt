@@ -34,8 +34,8 @@ use Rattle.ms_grammar.specs.declared.line.RawInst.{RawInst}
 use Rattle.ms_grammar.specs.declared.line.RawInst.TheVariants.{Alloca, Gep, Load, Store, Copy, Call, Bin, Cmp, Select, Cast, Phi}
 use Rattle.ms_grammar.specs.declared.line.RawTerm.{RawTerm}
 use Rattle.ms_grammar.specs.declared.line.RawTerm.TheVariants.{Br, CondBr, Ret, Unreachable}
-use Rattle.ms_resolve.specs.Shape.{InstLine, BlockLines, FuncLines}
-use Rattle.ms_resolve.specs.Made.{makes, is_same_name}
+use Rattle.ms_names.specs.Shape.{InstLine, BlockLines, FuncLines}
+use Rattle.ms_names.specs.Made.{makes, is_same_name}
 
 -- what attributes mean: a function's or call's under the module's groups, and a parameter's or argument's
 pub record Meaning (groups : List (ℕ × List ℕ)) : Type 0 where

@@ -1,7 +1,7 @@
 // Functions from their lines.
 ghost use Rattle.std.specs.Prelude.{◌≡◌, OnOk, IfOk};
 ghost use Rattle.ms_resolve.specs.Reader.{scope_by};
-ghost use Rattle.ms_resolve.specs.Build.{bare, with_shell, shell_line, shells_after, with_inst, inst_line, block_behind, insts_after, func_in, numbers_with, numbers_after, no_numbers};
+ghost use Rattle.ms_resolve.specs.Build.{bare, with_shell, shell_line, shells_after, with_inst, inst_line, block_behind, insts_after, head_in, func_in, numbers_with, numbers_after, no_numbers};
 
 use crate::reader::{Reader, copy, name_at};
 use crate::resolved::BodyLines;
@@ -26,10 +26,9 @@ fn shell_line(reader: &Reader, func: &mut Func, line: &Line) -> Result<(), NoMem
     ensures { OnOk result (func.new ≡ shell_line (scope_by reader.now) func.old line.now) }
 {
     match line {
-        Line::Term(term) => add_shell(reader, func, term)?,
-        _ => {}
+        Line::Term(term) => add_shell(reader, func, term),
+        _ => Ok(()),
     }
-    Ok(())
 }
 
 // The blocks, each with its terminator.
@@ -49,10 +48,10 @@ fn add_inst(reader: &Reader, func: &mut Func, b: u32, inst: &RawInst) -> Result<
     if b >= func.block_count() || func.made() == u32::MAX {
         return Err(NoMemory);
     }
+    func.reserve(1)?;
     let place = func.count(BlockNo(b));
     let name = reader.result_name(inst, func.local_count())?;
     let inst = reader.inst(inst)?;
-    func.reserve(1)?;
     func.put_inst(BlockNo(b), place, inst, name);
     Ok(())
 }
@@ -61,10 +60,9 @@ fn inst_line(reader: &Reader, func: &mut Func, b: u32, line: &Line) -> Result<()
     ensures { OnOk result (bare func.new ≡ inst_line (scope_by reader.now) b func.old line.now) }
 {
     match line {
-        Line::Inst(_, inst) => add_inst(reader, func, b, inst)?,
-        _ => {}
+        Line::Inst(_, inst) => add_inst(reader, func, b, inst),
+        _ => Ok(()),
     }
-    Ok(())
 }
 
 // The block of the next line.
@@ -94,21 +92,35 @@ fn add_insts(reader: &Reader, func: &mut Func, lines: &[(u32, Line)]) -> Result<
     Ok(())
 }
 
-// The function of a head and a body.
-pub(crate) fn func_of(reader: &Reader, head: &Head, body: &[(u32, Line)]) -> Result<Func, NoMemory>
-    ensures { IfOk result (λ f. bare f ≡ func_in (scope_by reader.now) head.now body.now) }
+// A function without a block.
+fn head_of(reader: &Reader, head: &Head) -> Result<Func, NoMemory>
+    ensures { IfOk result (λ f. f ≡ head_in (scope_by reader.now) head.now) }
 {
     let alloc = reader.alloc;
+    let name = copy(alloc, &head.name)?;
+    let attrs = copy(alloc, &head.attrs)?;
+    let post = copy(alloc, &head.post)?;
     let params = reader.params(head.params.as_slice())?;
     if params.len() >= 1 << 32 {
         return Err(NoMemory);
     }
-    let name = copy(alloc, &head.name)?;
-    let attrs = copy(alloc, &head.attrs)?;
-    let post = copy(alloc, &head.post)?;
-    let mut func = Func::new(alloc, name, attrs, head.ret, params, post);
-    add_shells(reader, &mut func, body)?;
-    add_insts(reader, &mut func, body)?;
+    Ok(Func::new(alloc, name, attrs, head.ret, params, post))
+}
+
+// All blocks come first, since an instruction comes to a block that is there.
+fn fill(reader: &Reader, func: &mut Func, body: &[(u32, Line)]) -> Result<(), NoMemory>
+    ensures { OnOk result (bare func.new ≡ insts_after (scope_by reader.now) 0 (shells_after (scope_by reader.now) func.old body.now) body.now) }
+{
+    add_shells(reader, func, body)?;
+    add_insts(reader, func, body)
+}
+
+// The function of a head and a body.
+pub(crate) fn func_of(reader: &Reader, head: &Head, body: &[(u32, Line)]) -> Result<Func, NoMemory>
+    ensures { IfOk result (λ f. bare f ≡ func_in (scope_by reader.now) head.now body.now) }
+{
+    let mut func = head_of(reader, head)?;
+    fill(reader, &mut func, body)?;
     Ok(func)
 }
 
@@ -126,11 +138,10 @@ impl BodyLines {
         ensures { OnOk result (self.new ≡ numbers_with self.old n line.now) }
     {
         match line {
-            Line::Inst(..) => self.insts.push(n)?,
-            Line::Term(_) => self.terms.push(n)?,
-            _ => {}
+            Line::Inst(..) => self.insts.push(n),
+            Line::Term(_) => self.terms.push(n),
+            _ => Ok(()),
         }
-        Ok(())
     }
 }
 

@@ -1,25 +1,22 @@
 ghost use Rattle.std.specs.Prelude.{◌≡◌, ◌<◌, ◌-◌, ◌^◌, ℕ, List, [], length, IfOk, IfErr};
 ghost use Rattle.ms_ir.specs.Symbols.{AreDistinct};
-ghost use Rattle.ms_resolve.specs.Shape.{ItemLines, IsShape};
+ghost use Rattle.ms_names.specs.Shape.{ItemLines, IsShape};
 ghost use Rattle.ms_resolve.specs.Cause.{IsFew, IsResolved, IsNameCause};
 ghost use Rattle.ms_resolve.specs.Build.{bare_module, no_module, bodies_after, AreNew, built};
 
 use crate::fault::NameFault;
 use crate::items::{Context, bodies_of, groups_of, sigs_of};
 use crate::resolved::Resolved;
-use crate::symbols::{Symbols, symbols_of};
-use crate::uses::least_in_functions;
 use ms_grammar::Line;
-use ms_ir::{Items, NoMemory};
+use ms_ir::{Items, Module, NoMemory};
+use ms_names::{Symbols, least_in_functions, symbols_of};
 use std::alloc::Global;
 
 // The module of lines without a fault.
-fn build(alloc: Global, lines: &[(u32, Line)], symbols: &Symbols) -> Result<Resolved, NoMemory>
+fn module_of(alloc: Global, lines: &[(u32, Line)], symbols: &Symbols) -> Result<Module, NoMemory>
     requires new { AreNew (no_module []).names lines.now }
     requires few { length lines.now < 2 ^ 31 - 1 }
-    ensures module_is { IfOk result (λ r. bare_module r.«module» ≡ built symbols.now lines.now) }
-    ensures distinct { IfOk result (λ r. AreDistinct r.«module».names.funcs) }
-    ensures lines_are { IfOk result (λ r. r.lines ≡ bodies_after [] lines.now) }
+    ensures { IfOk result (λ m. bare_module m ≡ built symbols.now lines.now) }
 {
     let groups = groups_of(alloc, lines)?;
     let sigs = sigs_of(alloc, &groups, lines)?;
@@ -29,11 +26,23 @@ fn build(alloc: Global, lines: &[(u32, Line)], symbols: &Symbols) -> Result<Reso
         sigs: &sigs,
         groups: &groups,
     };
-    let module = context.module(lines)?;
+    context.module(lines)
+}
+
+// The same with the lines of each body.
+fn build(alloc: Global, lines: &[(u32, Line)], symbols: &Symbols) -> Result<Resolved, NoMemory>
+    requires new { AreNew (no_module []).names lines.now }
+    requires few { length lines.now < 2 ^ 31 - 1 }
+    ensures module_is { IfOk result (λ r. bare_module r.«module» ≡ built symbols.now lines.now) }
+    ensures distinct { IfOk result (λ r. AreDistinct r.«module».names.funcs) }
+    ensures lines_are { IfOk result (λ r. r.lines ≡ bodies_after [] lines.now) }
+{
+    let bodies = bodies_of(alloc, lines)?;
+    let module = module_of(alloc, lines, symbols)?;
     module.whole();
     Ok(Resolved {
         module,
-        lines: bodies_of(alloc, lines)?,
+        lines: bodies,
     })
 }
 

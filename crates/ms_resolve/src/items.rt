@@ -1,32 +1,29 @@
 // A module from its lines.
-ghost use Rattle.std.specs.Prelude.{◌≡◌, ◌<◌, ◌-◌, ◌^◌, [], length, map, OnOk, IfOk};
+ghost use Rattle.std.specs.Prelude.{◌≡◌, ◌<◌, ◌+◌, ◌-◌, ◌^◌, [], length, map, OnOk, IfOk};
 ghost use Rattle.ms_ir.specs.Module.{IsNew};
 ghost use Rattle.ms_grammar.specs.Form.{printed};
 ghost use Rattle.ms_resolve.specs.Meaning.{keeps_in};
 ghost use Rattle.ms_resolve.specs.Scope.{mark_of};
-ghost use Rattle.ms_resolve.specs.Draft.{body_lines};
-ghost use Rattle.ms_resolve.specs.Build.{bare, groups_with, groups_after, sig_by, sigs_with, sigs_after, body_in, with_declared, with_defined, module_with, module_after, bare_module, no_module, bodies_with, bodies_after, IsLineNew, AreNew};
+ghost use Rattle.ms_names.specs.Draft.{body_lines};
+ghost use Rattle.ms_resolve.specs.Build.{bare, groups_with, groups_after, sig_by, sigs_with, sigs_after, body_in, with_kept, with_global_item, with_declared, with_defined, module_with, module_after, bare_module, no_module, bodies_with, bodies_after, IsLineNew, AreNew};
 ghost use Rattle.ms_resolve.specs.Context.{outer_by};
 
 use crate::body::{func_of, numbers_of};
 use crate::meaning::effects_of;
 use crate::reader::{Reader, copy, keeps_under};
-use crate::register::register_of;
 use crate::resolved::BodyLines;
-use crate::symbols::Symbols;
-use crate::uses::body_of;
 use ms_grammar::{Head, Line, write_line};
 use ms_ir::{Func, Groups, Items, Mark, Marks, Module, NoMemory, Param, Sig, Text};
+use ms_names::{Symbols, body_of, register_of};
 use std::alloc::Global;
 
 fn add_group(alloc: Global, groups: &mut Groups, line: &Line) -> Result<(), NoMemory>
     ensures { OnOk result (groups.new ≡ groups_with groups.old line.now) }
 {
     match line {
-        Line::Group(number, text) => groups.push((*number, copy(alloc, text)?))?,
-        _ => {}
+        Line::Group(number, text) => groups.push((*number, copy(alloc, text)?)),
+        _ => Ok(()),
     }
-    Ok(())
 }
 
 // The groups in the order of their lines.
@@ -65,9 +62,9 @@ fn sig_of(alloc: Global, groups: &Groups, head: &Head) -> Result<Sig, NoMemory>
 {
     Ok(Sig {
         ret: head.ret,
-        params: marks_of(alloc, head.params.as_slice())?,
         variadic: head.variadic,
         effects: effects_of(alloc, &head.post, groups)?,
+        params: marks_of(alloc, head.params.as_slice())?,
     })
 }
 
@@ -80,10 +77,9 @@ fn add_sig(
     ensures { OnOk result (sigs.new ≡ sigs_with groups.now sigs.old line.now) }
 {
     match line {
-        Line::Declare(head) | Line::Define(head) => sigs.push(sig_of(alloc, groups, head)?)?,
-        _ => {}
+        Line::Declare(head) | Line::Define(head) => sigs.push(sig_of(alloc, groups, head)?),
+        _ => Ok(()),
     }
-    Ok(())
 }
 
 // What the functions' lines say, in their order.
@@ -125,6 +121,24 @@ impl<'s, 'a> Context<'s, 'a> {
         func_of(&reader, head, body)
     }
 
+    fn kept(&self, module: &mut Module, text: &Text) -> Result<(), NoMemory>
+        requires few { length module.old.items < 2 ^ 32 - 1 }
+        ensures { OnOk result (bare_module module.new ≡ with_kept (bare_module module.old) text.now) }
+    {
+        module.add_kept(copy(self.alloc, text)?)
+    }
+
+    fn global(&self, module: &mut Module, name: &Text, text: &Text) -> Result<(), NoMemory>
+        requires new { IsNew module.old.names name.now }
+        requires few { length module.old.items < 2 ^ 32 - 1 }
+        ensures { OnOk result (bare_module module.new ≡ with_global_item (bare_module module.old) name.now text.now) }
+    {
+        let name = copy(self.alloc, name)?;
+        let text = copy(self.alloc, text)?;
+        module.add_global(name, text)?;
+        Ok(())
+    }
+
     fn define(
         &self,
         module: &mut Module,
@@ -137,9 +151,9 @@ impl<'s, 'a> Context<'s, 'a> {
         ensures { OnOk result (bare_module module.new ≡ with_defined (bare_module module.old) head.now.name (sig_by self.now.groups.now head.now)
             (body_in (outer_by self.now) n head.now (body_lines rest.now))) }
     {
-        let func = self.body(n, head, body_of(rest))?;
-        let sig = sig_of(self.alloc, self.groups, head)?;
         let name = copy(self.alloc, &head.name)?;
+        let sig = sig_of(self.alloc, self.groups, head)?;
+        let func = self.body(n, head, body_of(rest))?;
         add_body(module, name, sig, func)?;
         Ok(())
     }
@@ -149,10 +163,10 @@ impl<'s, 'a> Context<'s, 'a> {
         requires few { length module.old.items < 2 ^ 32 - 1 }
         ensures { OnOk result (bare_module module.new ≡ with_declared (bare_module module.old) head.now.name (sig_by self.now.groups.now head.now) (printed line.now)) }
     {
-        let sig = sig_of(self.alloc, self.groups, head)?;
         let name = copy(self.alloc, &head.name)?;
         let mut text = Text::new(self.alloc);
         write_line(line, &mut text)?;
+        let sig = sig_of(self.alloc, self.groups, head)?;
         module.add_declared(name, sig, text)?;
         Ok(())
     }
@@ -169,13 +183,21 @@ impl<'s, 'a> Context<'s, 'a> {
         ensures { OnOk result (bare_module module.new ≡ module_with (outer_by self.now) (bare_module module.old) n line.now rest.now) }
     {
         match line {
-            Line::Kept(text) | Line::Group(_, text) => module.add_kept(copy(self.alloc, text)?)?,
-            Line::GlobalVar(name, text) => {
-                module.add_global(copy(self.alloc, name)?, copy(self.alloc, text)?)?;
-            }
-            Line::Declare(head) => self.declare(module, head, line)?,
-            Line::Define(head) => self.define(module, n, head, rest)?,
-            _ => {}
+            Line::Kept(text) | Line::Group(_, text) => self.kept(module, text),
+            Line::GlobalVar(name, text) => self.global(module, name, text),
+            Line::Declare(head) => self.declare(module, head, line),
+            Line::Define(head) => self.define(module, n, head, rest),
+            _ => Ok(()),
+        }
+    }
+
+    fn add_lines(&self, module: &mut Module, lines: &[(u32, Line)]) -> Result<(), NoMemory>
+        requires new { AreNew module.old.names lines.now }
+        requires few { length module.old.items + length lines.now < 2 ^ 32 - 1 }
+        ensures { OnOk result (bare_module module.new ≡ module_after (outer_by self.now) (bare_module module.old) lines.now) }
+    {
+        for (at, (n, line)) in lines.iter().enumerate() {
+            self.add_line(module, *n, line, &lines[at + 1..])?;
         }
         Ok(())
     }
@@ -187,9 +209,7 @@ impl<'s, 'a> Context<'s, 'a> {
         ensures { IfOk result (λ m. bare_module m ≡ module_after (outer_by self.now) (no_module (groups_after [] lines.now)) lines.now) }
     {
         let mut module = Module::new(self.alloc, groups_of(self.alloc, lines)?);
-        for (at, (n, line)) in lines.iter().enumerate() {
-            self.add_line(&mut module, *n, line, &lines[at + 1..])?;
-        }
+        self.add_lines(&mut module, lines)?;
         Ok(module)
     }
 }
@@ -215,10 +235,9 @@ fn add_numbers(
     ensures { OnOk result (bodies.new ≡ bodies_with bodies.old line.now rest.now) }
 {
     match line {
-        Line::Define(_) => bodies.push(numbers_of(alloc, body_of(rest))?)?,
-        _ => {}
+        Line::Define(_) => bodies.push(numbers_of(alloc, body_of(rest))?),
+        _ => Ok(()),
     }
-    Ok(())
 }
 
 // The lines of the functions with a body.

@@ -7,15 +7,10 @@
 mod body;
 mod draft;
 mod fault;
-mod faults;
 mod items;
 mod meaning;
 mod reader;
-mod register;
 mod resolved;
-mod symbols;
-mod table;
-mod uses;
 
 pub use draft::resolve;
 pub use fault::NameFault;

@@ -1,5 +1,5 @@
 // Values, instructions and terminators under their names.
-ghost use Rattle.std.specs.Prelude.{◌≡◌, ◌&&◌, ◌++◌, ◌∷◌, [], map, drop, slice_index_or, IfOk};
+ghost use Rattle.std.specs.Prelude.{◌≡◌, ◌&&◌, ◌++◌, ◌∷◌, [], false, map, drop, slice_index_or, IfOk};
 ghost use Rattle.ms_ir.specs.declared.names.Name.TheVariants.{Absent};
 ghost use Rattle.ms_attrs.specs.Effects.{both};
 ghost use Rattle.ms_attrs.specs.Memory.{everything};
@@ -11,14 +11,12 @@ ghost use Rattle.ms_resolve.specs.Reader.{scope_by};
 ghost use Rattle.ms_resolve.specs.Build.{result_name};
 
 use crate::meaning::{effects_of, keeps_of};
-use crate::register::{Register, makes};
-use crate::symbols::Symbols;
-use crate::uses::symbol_place;
 use ms_grammar::{RawArg, RawEntry, RawInst, RawTerm, RawVal};
 use ms_ir::{
-    Arg, Args, BlockNo, Effects, Entries, Entry, FuncNo, GlobalNo, Groups, Inst, Items, LocalNo,
-    Mark, Name, NoMemory, Param, Params, Sig, Term, Text, Ty, Val,
+    Arg, Args, BlockNo, CastOp, Effects, Entries, Entry, Flags, FuncNo, GlobalNo, Groups, Inst,
+    Items, LocalNo, Mark, Name, NoMemory, Op, Param, Params, Pred, Sig, Term, Text, Ty, Val,
 };
+use ms_names::{Register, Symbols, makes, symbol_place};
 use std::alloc::Global;
 
 // What a function's lines are read under.
@@ -34,7 +32,7 @@ pub(crate) struct Reader<'s, 'a> {
 pub(crate) fn copy(alloc: Global, text: &Text) -> Result<Text, NoMemory>
     ensures { IfOk result (λ t. t ≡ text.now) }
 {
-    Ok(Text::from_bytes(alloc, text.bytes())?)
+    Text::from_bytes(alloc, text.bytes())
 }
 
 fn copy_name(alloc: Global, name: &Name) -> Result<Name, NoMemory>
@@ -52,7 +50,7 @@ pub(crate) fn name_at(alloc: Global, names: &[Name], at: u64) -> Result<Name, No
 {
     let at = at as usize;
     if at < names.len() {
-        return Ok(copy_name(alloc, &names[at])?);
+        return copy_name(alloc, &names[at]);
     }
     Ok(Name::Absent)
 }
@@ -83,7 +81,7 @@ fn ends(alloc: Global, post: &Text, tail: &Text) -> Result<Text, NoMemory>
 {
     let bytes = post.bytes();
     if bytes.is_empty() {
-        return Ok(copy(alloc, tail)?);
+        return copy(alloc, tail);
     }
     let mut out = Vec::new(alloc);
     out.push(b' ')?;
@@ -225,7 +223,111 @@ impl<'s, 'a> Reader<'s, 'a> {
     fn func(&self, callee: &Name) -> Result<u32, NoMemory>
         ensures { IfOk result (λ f. f ≡ number_of_word (scope_by self.now).funcs (name_text callee.now)) }
     {
-        Ok(small(symbol_place(&self.symbols.funcs, callee))?)
+        small(symbol_place(&self.symbols.funcs, callee))
+    }
+
+    // In each line what is only a number comes first and the texts behind it, since what was made before a step that fails has to be
+    // dropped there.
+    fn alloca(&self, size: u32, head: &Text, tail: &Text) -> Result<Inst, NoMemory>
+        ensures { IfOk result (λ i. i ≡ Inst.Alloca size head.now tail.now) }
+    {
+        Ok(Inst::Alloca {
+            size,
+            head: copy(self.alloc, head)?,
+            tail: copy(self.alloc, tail)?,
+        })
+    }
+
+    fn gep(
+        &self,
+        base: &RawVal,
+        offset: i64,
+        head: &Text,
+        index: &Text,
+        tail: &Text,
+    ) -> Result<Inst, NoMemory>
+        ensures { IfOk result (λ i. i ≡ Inst.Gep (value_of (scope_by self.now) base.now) offset head.now index.now tail.now) }
+    {
+        Ok(Inst::Gep {
+            base: self.value(base)?,
+            offset,
+            head: copy(self.alloc, head)?,
+            index: copy(self.alloc, index)?,
+            tail: copy(self.alloc, tail)?,
+        })
+    }
+
+    fn load(&self, ty: Ty, ptr: &RawVal, tail: &Text) -> Result<Inst, NoMemory>
+        ensures { IfOk result (λ i. i ≡ Inst.Load ty (value_of (scope_by self.now) ptr.now) tail.now) }
+    {
+        Ok(Inst::Load {
+            ty,
+            ptr: self.value(ptr)?,
+            tail: copy(self.alloc, tail)?,
+        })
+    }
+
+    fn store(&self, ty: Ty, val: &RawVal, ptr: &RawVal, tail: &Text) -> Result<Inst, NoMemory>
+        ensures { IfOk result (λ i. i ≡ Inst.Store ty (value_of (scope_by self.now) val.now) (value_of (scope_by self.now) ptr.now) tail.now) }
+    {
+        Ok(Inst::Store {
+            ty,
+            val: self.value(val)?,
+            ptr: self.value(ptr)?,
+            tail: copy(self.alloc, tail)?,
+        })
+    }
+
+    // Its arguments come last: they have texts of their own.
+    fn memcpy(
+        &self,
+        to: &RawArg,
+        from: &RawArg,
+        len: u32,
+        head: &Text,
+        post: &Text,
+        tail: &Text,
+    ) -> Result<Inst, NoMemory>
+        ensures { IfOk result (λ i. i ≡ Inst.Copy (arg_of (scope_by self.now) false to.now) (arg_of (scope_by self.now) false from.now) len head.now (behind_blank post.now ++ tail.now)) }
+    {
+        Ok(Inst::Copy {
+            len,
+            head: copy(self.alloc, head)?,
+            tail: ends(self.alloc, post, tail)?,
+            to: self.arg(false, to)?,
+            from: self.arg(false, from)?,
+        })
+    }
+
+    // What a call may do: as its own attributes and those of its callee's line both say.
+    fn effects(&self, f: u32, post: &Text) -> Result<Effects, NoMemory>
+        ensures { IfOk result (λ e. e ≡ both ((scope_by self.now).effects post.now) (effects_of_sig (sig_of (scope_by self.now) f))) }
+    {
+        let own = effects_of(self.alloc, post, self.groups)?;
+        Ok(in_both(own, self.effects_at(f)))
+    }
+
+    // A call of the function with this number.
+    fn call_of(
+        &self,
+        f: u32,
+        ret: Option<Ty>,
+        args: &[RawArg],
+        head: &Text,
+        post: &Text,
+        tail: &Text,
+    ) -> Result<Inst, NoMemory>
+        ensures { IfOk result (λ i. i ≡ Inst.Call (record { 0 = f }) ret (args_of (scope_by self.now) (marks_of (sig_of (scope_by self.now) f)) args.now)
+            (both ((scope_by self.now).effects post.now) (effects_of_sig (sig_of (scope_by self.now) f))) head.now (behind_blank post.now ++ tail.now)) }
+    {
+        Ok(Inst::Call {
+            callee: FuncNo(f),
+            ret,
+            effects: self.effects(f, post)?,
+            head: copy(self.alloc, head)?,
+            tail: ends(self.alloc, post, tail)?,
+            args: self.args(self.marks_at(f), args)?,
+        })
     }
 
     fn call(
@@ -240,14 +342,98 @@ impl<'s, 'a> Reader<'s, 'a> {
         ensures { IfOk result (λ i. i ≡ inst_of (scope_by self.now) (RawInst.Call callee.now ret args.now head.now post.now tail.now)) }
     {
         let f = self.func(callee)?;
-        let own = effects_of(self.alloc, post, self.groups)?;
-        Ok(Inst::Call {
-            callee: FuncNo(f),
-            ret,
-            args: self.args(self.marks_at(f), args)?,
-            effects: in_both(own, self.effects_at(f)),
-            head: copy(self.alloc, head)?,
-            tail: ends(self.alloc, post, tail)?,
+        self.call_of(f, ret, args, head, post, tail)
+    }
+
+    fn bin(
+        &self,
+        op: Op,
+        flags: Flags,
+        ty: Ty,
+        a: &RawVal,
+        b: &RawVal,
+        tail: &Text,
+    ) -> Result<Inst, NoMemory>
+        ensures { IfOk result (λ i. i ≡ Inst.Bin op flags ty (value_of (scope_by self.now) a.now) (value_of (scope_by self.now) b.now) tail.now) }
+    {
+        Ok(Inst::Bin {
+            op,
+            flags,
+            ty,
+            a: self.value(a)?,
+            b: self.value(b)?,
+            tail: copy(self.alloc, tail)?,
+        })
+    }
+
+    fn cmp(
+        &self,
+        pred: Pred,
+        flags: Flags,
+        ty: Ty,
+        a: &RawVal,
+        b: &RawVal,
+        tail: &Text,
+    ) -> Result<Inst, NoMemory>
+        ensures { IfOk result (λ i. i ≡ Inst.Cmp pred flags ty (value_of (scope_by self.now) a.now) (value_of (scope_by self.now) b.now) tail.now) }
+    {
+        Ok(Inst::Cmp {
+            pred,
+            flags,
+            ty,
+            a: self.value(a)?,
+            b: self.value(b)?,
+            tail: copy(self.alloc, tail)?,
+        })
+    }
+
+    fn select(
+        &self,
+        cond: &RawVal,
+        ty: Ty,
+        a: &RawVal,
+        b: &RawVal,
+        tail: &Text,
+    ) -> Result<Inst, NoMemory>
+        ensures { IfOk result (λ i. i ≡ Inst.Select (value_of (scope_by self.now) cond.now) ty (value_of (scope_by self.now) a.now) (value_of (scope_by self.now) b.now) tail.now) }
+    {
+        Ok(Inst::Select {
+            cond: self.value(cond)?,
+            ty,
+            a: self.value(a)?,
+            b: self.value(b)?,
+            tail: copy(self.alloc, tail)?,
+        })
+    }
+
+    fn cast(
+        &self,
+        op: CastOp,
+        flags: Flags,
+        from: Ty,
+        a: &RawVal,
+        to: Ty,
+        tail: &Text,
+    ) -> Result<Inst, NoMemory>
+        ensures { IfOk result (λ i. i ≡ Inst.Cast op flags from (value_of (scope_by self.now) a.now) to tail.now) }
+    {
+        Ok(Inst::Cast {
+            op,
+            flags,
+            from,
+            a: self.value(a)?,
+            to,
+            tail: copy(self.alloc, tail)?,
+        })
+    }
+
+    fn phi(&self, ty: Ty, entries: &[RawEntry], tail: &Text) -> Result<Inst, NoMemory>
+        ensures { IfOk result (λ i. i ≡ Inst.Phi ty (map (entry_of (scope_by self.now)) entries.now) tail.now) }
+    {
+        Ok(Inst::Phi {
+            tail: copy(self.alloc, tail)?,
+            ty,
+            entries: self.entries(entries)?,
         })
     }
 
@@ -255,35 +441,16 @@ impl<'s, 'a> Reader<'s, 'a> {
         ensures { IfOk result (λ i. i ≡ inst_of (scope_by self.now) inst.now) }
     {
         match inst {
-            RawInst::Alloca { size, head, tail } => Ok(Inst::Alloca {
-                size: *size,
-                head: copy(self.alloc, head)?,
-                tail: copy(self.alloc, tail)?,
-            }),
+            RawInst::Alloca { size, head, tail } => self.alloca(*size, head, tail),
             RawInst::Gep {
                 base,
                 offset,
                 head,
                 index,
                 tail,
-            } => Ok(Inst::Gep {
-                base: self.value(base)?,
-                offset: *offset,
-                head: copy(self.alloc, head)?,
-                index: copy(self.alloc, index)?,
-                tail: copy(self.alloc, tail)?,
-            }),
-            RawInst::Load { ty, ptr, tail } => Ok(Inst::Load {
-                ty: *ty,
-                ptr: self.value(ptr)?,
-                tail: copy(self.alloc, tail)?,
-            }),
-            RawInst::Store { ty, val, ptr, tail } => Ok(Inst::Store {
-                ty: *ty,
-                val: self.value(val)?,
-                ptr: self.value(ptr)?,
-                tail: copy(self.alloc, tail)?,
-            }),
+            } => self.gep(base, *offset, head, index, tail),
+            RawInst::Load { ty, ptr, tail } => self.load(*ty, ptr, tail),
+            RawInst::Store { ty, val, ptr, tail } => self.store(*ty, val, ptr, tail),
             RawInst::Copy {
                 to,
                 from,
@@ -291,13 +458,7 @@ impl<'s, 'a> Reader<'s, 'a> {
                 head,
                 post,
                 tail,
-            } => Ok(Inst::Copy {
-                to: self.arg(false, to)?,
-                from: self.arg(false, from)?,
-                len: *len,
-                head: copy(self.alloc, head)?,
-                tail: ends(self.alloc, post, tail)?,
-            }),
+            } => self.memcpy(to, from, *len, head, post, tail),
             RawInst::Call {
                 callee,
                 ret,
@@ -305,7 +466,7 @@ impl<'s, 'a> Reader<'s, 'a> {
                 head,
                 post,
                 tail,
-            } => Ok(self.call(callee, *ret, args.as_slice(), head, post, tail)?),
+            } => self.call(callee, *ret, args.as_slice(), head, post, tail),
             RawInst::Bin {
                 op,
                 flags,
@@ -313,14 +474,7 @@ impl<'s, 'a> Reader<'s, 'a> {
                 a,
                 b,
                 tail,
-            } => Ok(Inst::Bin {
-                op: *op,
-                flags: *flags,
-                ty: *ty,
-                a: self.value(a)?,
-                b: self.value(b)?,
-                tail: copy(self.alloc, tail)?,
-            }),
+            } => self.bin(*op, *flags, *ty, a, b, tail),
             RawInst::Cmp {
                 pred,
                 flags,
@@ -328,27 +482,14 @@ impl<'s, 'a> Reader<'s, 'a> {
                 a,
                 b,
                 tail,
-            } => Ok(Inst::Cmp {
-                pred: *pred,
-                flags: *flags,
-                ty: *ty,
-                a: self.value(a)?,
-                b: self.value(b)?,
-                tail: copy(self.alloc, tail)?,
-            }),
+            } => self.cmp(*pred, *flags, *ty, a, b, tail),
             RawInst::Select {
                 cond,
                 ty,
                 a,
                 b,
                 tail,
-            } => Ok(Inst::Select {
-                cond: self.value(cond)?,
-                ty: *ty,
-                a: self.value(a)?,
-                b: self.value(b)?,
-                tail: copy(self.alloc, tail)?,
-            }),
+            } => self.select(cond, *ty, a, b, tail),
             RawInst::Cast {
                 op,
                 flags,
@@ -356,19 +497,8 @@ impl<'s, 'a> Reader<'s, 'a> {
                 a,
                 to,
                 tail,
-            } => Ok(Inst::Cast {
-                op: *op,
-                flags: *flags,
-                from: *from,
-                a: self.value(a)?,
-                to: *to,
-                tail: copy(self.alloc, tail)?,
-            }),
-            RawInst::Phi { ty, entries, tail } => Ok(Inst::Phi {
-                ty: *ty,
-                entries: self.entries(entries.as_slice())?,
-                tail: copy(self.alloc, tail)?,
-            }),
+            } => self.cast(*op, *flags, *from, a, *to, tail),
+            RawInst::Phi { ty, entries, tail } => self.phi(*ty, entries.as_slice(), tail),
         }
     }
 
@@ -381,17 +511,31 @@ impl<'s, 'a> Reader<'s, 'a> {
         }
     }
 
+    fn cond_br(
+        &self,
+        cond: &RawVal,
+        if_true: &Name,
+        if_false: &Name,
+        tail: &Text,
+    ) -> Result<Term, NoMemory>
+        ensures { IfOk result (λ t. t ≡ Term.CondBr (value_of (scope_by self.now) cond.now) (block_of (scope_by self.now) if_true.now) (block_of (scope_by self.now) if_false.now) tail.now) }
+    {
+        Ok(Term::CondBr(
+            self.value(cond)?,
+            self.block(if_true)?,
+            self.block(if_false)?,
+            copy(self.alloc, tail)?,
+        ))
+    }
+
     pub(crate) fn term(&self, term: &RawTerm) -> Result<Term, NoMemory>
         ensures { IfOk result (λ t. t ≡ term_of (scope_by self.now) term.now) }
     {
         match term {
             RawTerm::Br(to, tail) => Ok(Term::Br(self.block(to)?, copy(self.alloc, tail)?)),
-            RawTerm::CondBr(cond, if_true, if_false, tail) => Ok(Term::CondBr(
-                self.value(cond)?,
-                self.block(if_true)?,
-                self.block(if_false)?,
-                copy(self.alloc, tail)?,
-            )),
+            RawTerm::CondBr(cond, if_true, if_false, tail) => {
+                self.cond_br(cond, if_true, if_false, tail)
+            }
             RawTerm::Ret(given, tail) => Ok(Term::Ret(self.given(given)?, copy(self.alloc, tail)?)),
             RawTerm::Unreachable(tail) => Ok(Term::Unreachable(copy(self.alloc, tail)?)),
         }
@@ -402,7 +546,7 @@ impl<'s, 'a> Reader<'s, 'a> {
         ensures { IfOk result (λ n. n ≡ result_name (scope_by self.now) inst.now next) }
     {
         if makes(inst) {
-            return Ok(name_at(self.alloc, self.register.locals.names(), next)?);
+            return name_at(self.alloc, self.register.locals.names(), next);
         }
         Ok(Name::Absent)
     }
