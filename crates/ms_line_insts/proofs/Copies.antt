@@ -1,11 +1,11 @@
 -- The pointers and the length of a memcpy.
-use Rattle.std.proofs.Common.{◌≡◌, ℕ, List, [], ◌∷◌, ◌++◌, ap, ◌∙◌, Result, Ok, Err}
+use Rattle.std.proofs.Common.{ℕ, List, ◌∷◌, ◌++◌, ap, ◌∙◌, Result, Ok, Err}
 use Rattle.std.specs.Prelude.{IfOk, MatchOption, Option, Some, None}
 use Rattle.ms_lex.specs.declared.token.Token.{Token}
-use Rattle.ms_grammar.specs.Parts.{Part, blank}
+use Rattle.ms_grammar.specs.Parts.{blank}
 use Rattle.ms_grammar.specs.Form.{arg_parts, end_parts}
 use Rattle.ms_grammar.specs.declared.line.RawArg.{RawArg}
-use Rattle.ms_line_insts.specs.Front.{Spelt, NoFront, Front, NoFrontIf, FrontIf, Ahead, Always, Leads, Behind}
+use Rattle.ms_line_insts.specs.Front.{Spelt, Front, NoFrontIf, FrontIf, Ahead, Always, Leads}
 use Rattle.ms_line_insts.specs.ListFronts.{behind_comma}
 use Rattle.ms_line_insts.specs.CallFronts.{BeginsMark, IsPointerArg, ArePointers, pointers_parts, copy_start_parts, IsCopyFront, copy_front_parts, copy_flag_parts}
 use Rattle.ms_line_insts.proofs.ArgLemmas.{comma_marks}

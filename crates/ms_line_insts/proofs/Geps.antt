@@ -1,7 +1,7 @@
 -- The parts of a getelementptr.
 use Rattle.std.proofs.Common.{◌≡◌, ◌≤◌, length, ℕ, ℤ, List, [], ◌∷◌, ◌++◌, refl}
 use Rattle.ms_lex.specs.declared.token.Token.{Token}
-use Rattle.ms_grammar.specs.Parts.{Part, blank, kept, tail, gep_head, indices, kept_text, joined}
+use Rattle.ms_grammar.specs.Parts.{blank, kept, tail, gep_head, indices, kept_text, joined}
 use Rattle.ms_grammar.specs.Form.{Scale, word_part}
 use Rattle.ms_grammar.specs.Fits.{IsValue, offset_of}
 use Rattle.ms_ir.specs.declared.names.Ty.TheVariants.{Ptr}

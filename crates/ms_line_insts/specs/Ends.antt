@@ -2,12 +2,10 @@
 use Rattle.std.specs.Prelude.{ℕ, List, [], ◌∷◌, ◌++◌}
 use Rattle.ms_lex.specs.declared.token.Token.{Token}
 use Rattle.ms_ir.specs.declared.names.Ty.{Ty}
-use Rattle.ms_ir.specs.declared.names.Name.{Name}
 use Rattle.ms_grammar.specs.Parts.{Part, blank, kept, tail}
-use Rattle.ms_grammar.specs.Form.{word_part, type_part, value_part, typed_parts, comma_parts, target_parts}
-use Rattle.ms_grammar.specs.Fits.{IsInt, IsNamed, IsValue}
+use Rattle.ms_grammar.specs.Form.{word_part, type_part, value_part, typed_parts, comma_parts}
+use Rattle.ms_grammar.specs.Fits.{IsInt, IsValue}
 use Rattle.ms_grammar.specs.declared.keyword.Keyword.{Keyword}
-use Rattle.ms_grammar.specs.declared.keyword.Keyword.TheVariants as word
 use Rattle.ms_ir.specs.declared.names.Ty.TheVariants.{I1}
 use Rattle.ms_grammar.specs.declared.line.RawVal.{RawVal}
 use Rattle.ms_line_insts.specs.Front.{Spelt, typed}

@@ -1,5 +1,5 @@
 -- What stands in front of the values of an instruction, and its values up to the line's end.
-use Rattle.std.specs.Prelude.{◌≡◌, ℕ, Bool, List, [], ◌∷◌, ◌++◌}
+use Rattle.std.specs.Prelude.{◌≡◌, ℕ, Bool, List, ◌∷◌, ◌++◌}
 use Rattle.ms_ir.specs.declared.names.Ty.{Ty}
 use Rattle.ms_ir.specs.declared.inst.Op.{Op}
 use Rattle.ms_ir.specs.declared.inst.Pred.{Pred}

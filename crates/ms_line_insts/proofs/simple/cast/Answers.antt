@@ -1,5 +1,4 @@
-use Rattle.std.proofs.Common.{refl, subst, ap}
-use Rattle.ms_ir.specs.declared.names.Ty.{Ty}
+use Rattle.std.proofs.Common.{refl, subst}
 use Rattle.ms_ir.specs.declared.inst.CastOp.{CastOp}
 use Rattle.ms_ir.specs.declared.inst.Flags.{Flags}
 use Rattle.ms_grammar.specs.Fits.{Converts}
