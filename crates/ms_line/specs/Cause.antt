@@ -1,5 +1,6 @@
 -- Why a line is not read.
 use Rattle.std.specs.Prelude.{◌≡◌, ℕ, List}
+use Rattle.ms_grammar.specs.Form.{printed}
 use Rattle.ms_grammar.specs.Grammar.{Says, kept_of}
 use Rattle.ms_grammar.specs.Limits.{IsWithinLimits}
 use Rattle.ms_grammar.specs.declared.line.Line.{Line}
@@ -12,6 +13,10 @@ pub record IsRead (bytes : List ℕ) (line : Line) : Type 0 where
   pub says : Says bytes written
   pub within : IsWithinLimits written
   pub kept : line ≡ kept_of written
+
+-- what is printed for a line is read as the line itself
+pub record IsReadAgain (line : Line) : Type 0 where
+  pub as_itself : IsRead (printed line) line
 
 -- the line says something that passes a limit
 pub record IsPast (bytes : List ℕ) : Type 0 where

@@ -1,5 +1,5 @@
 ghost use Rattle.std.specs.Prelude.{◌≡◌, ◌<◌, ◌^◌, length, IfOk, IfErr};
-ghost use Rattle.ms_line.specs.Cause.{IsRead, IsLineCause};
+ghost use Rattle.ms_line.specs.Cause.{IsRead, IsReadAgain, IsLineCause};
 ghost use Rattle.ms_line.specs.Sorts.{IsOfSort, IsSortCause, sort_of, sort_of_inst};
 
 use crate::fault::LineFault;
@@ -9,9 +9,11 @@ use crate::measure::is_short_line;
 use crate::said::said;
 use crate::sort::Sort;
 use ms_grammar::{Line, RawInst};
+use ms_reread::said_again;
 use std::alloc::Global;
 
-/// What a line says. The parameters of a declared function lose their names.
+/// What a line says. The parameters of a declared function lose their names. What is printed for the
+/// answer is read as the same line.
 ///
 /// The line has fewer than 2^32 bytes. The time is linear in its length.
 ///
@@ -21,8 +23,10 @@ use std::alloc::Global;
 pub fn read_line(alloc: Global, line: &[u8]) -> Result<Line, LineFault>
     requires { length line.now < 2 ^ 32 }
     ensures ok { IfOk result (λ l. IsRead line.now l) }
+    ensures again { IfOk result (λ l. IsReadAgain l) }
     ensures err { IfErr result (λ fault. IsLineCause line.now fault) }
 {
+    said_again();
     match said(alloc, line) {
         Ok(Said::Whole(found)) => {
             if is_short_line(&found) {

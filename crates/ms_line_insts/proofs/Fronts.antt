@@ -262,6 +262,12 @@ read_after Fits parts front line tokens mid (Err e) a h = tt
 read_after Fits parts front line tokens mid (Ok None) a h = none_after Fits parts front line tokens mid a h
 read_after Fits parts front line tokens mid (Ok (Some f)) a h = front_after Fits parts front line tokens mid f.0 f.1.now a h
 
+pub option_after : {X : Type 0} (Fits : X → Type 0) (parts : X → List Part) (front : List Part) (line : List ℕ) (tokens mid : List Token) (r : Option (X × Bor (List Token))) →
+    Leads front line tokens mid → MatchOption r (NoFront Fits parts line mid) (λ f. Front Fits parts line mid f.0 f.1.now) →
+    MatchOption r (NoFront Fits (λ y. front ++ parts y) line tokens) (λ f. Front Fits (λ y. front ++ parts y) line tokens f.0 f.1.now)
+option_after Fits parts front line tokens mid None a none = none_after Fits parts front line tokens mid a none
+option_after Fits parts front line tokens mid (Some f) a b = front_after Fits parts front line tokens mid f.0 f.1.now a b
+
 pub spaced_lead : (p : Part) (line : List ℕ) (tokens : List Token) (r : Option (Bor (List Token))) →
     MatchOption r (NoLead (p ∷ []) line tokens) (λ rest. Leads (p ∷ []) line tokens rest.now) →
     MatchOption r (NoLead (p ∷ blank ∷ []) line tokens) (λ rest. Leads (p ∷ blank ∷ []) line tokens rest.now)

@@ -1,9 +1,12 @@
 pub mod ArgLemmas
 pub mod CallLemmas
+pub mod Copies
 pub mod CutLemmas
 pub mod Entries
 pub mod FlagLemmas
 pub mod Fronts
+pub mod Geps
+pub mod Heads
 pub mod JoinLemmas
 pub mod Lists
 pub mod Spelt

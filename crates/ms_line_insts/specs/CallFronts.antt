@@ -5,13 +5,15 @@ use Rattle.ms_lex.specs.declared.token.Token.{Token}
 use Rattle.ms_ir.specs.declared.names.Ty.{Ty}
 use Rattle.ms_grammar.specs.declared.keyword.Keyword.TheVariants as word
 use Rattle.ms_grammar.specs.Parts.{Part, blank, token, count, kept, call_head, copy_head, bytes_at, result_word}
-use Rattle.ms_grammar.specs.Form.{comma_parts, type_part, word_part, arg_parts, listed, call_front, name_text}
+use Rattle.ms_grammar.specs.Form.{comma_parts, type_part, word_part, arg_parts, listed, call_front, end_parts, name_text}
 use Rattle.ms_grammar.specs.Fits.{IsArg, IsOwnName, IsResult}
 use Rattle.ms_grammar.specs.declared.line.RawArg.{RawArg}
 use Rattle.ms_ir.specs.declared.names.Name.{Name}
 use Rattle.ms_ir.specs.declared.names.Ty.TheVariants.{I1, I64, Ptr}
 use Rattle.ms_grammar.specs.Scan.{IsListMark}
+use Rattle.ms_grammar.specs.Kept.{Each}
 use Rattle.ms_line_insts.specs.Front.{Spelt}
+use Rattle.ms_line_insts.specs.ListFronts.{behind_comma}
 
 -- tokens that begin with a list's mark
 pub record StartsMark (line : List ℕ) (rest : List Token) : Type 0 where
@@ -65,3 +67,27 @@ length_parts n = comma_parts ++ type_part I64 ∷ blank ∷ count n ∷ []
 
 abbrev pub copy_flag_parts : List Part
 copy_flag_parts = comma_parts ++ type_part I1 ∷ blank ∷ word_part word.False ∷ word_part word.Close ∷ []
+
+-- the arguments of a call and what is kept behind them
+abbrev pub AreArgs : List RawArg × (List ℕ × List ℕ) → Type 0
+AreArgs a = Each IsArg a.0
+
+abbrev pub args_end_parts : List RawArg × (List ℕ × List ℕ) → List Part
+args_end_parts a = closed_args a.0 ++ end_parts a.1.0 a.1.1
+
+-- the pointers of a memcpy
+abbrev pub ArePointers : RawArg × RawArg → Type 0
+ArePointers p = IsPointerArg p.0 × IsPointerArg p.1
+
+abbrev pub pointers_parts : RawArg × RawArg → List Part
+pointers_parts p = arg_parts p.0 ++ behind_comma arg_parts p.1
+
+abbrev pub IsCopyFront : List ℕ × (RawArg × RawArg) → Type 0
+IsCopyFront c = ArePointers c.1
+
+abbrev pub copy_front_parts : List ℕ × (RawArg × RawArg) → List Part
+copy_front_parts c = copy_start_parts c.0 ++ pointers_parts c.1
+
+-- the length of a memcpy and what is behind it
+abbrev pub length_end_parts : ℕ × (List ℕ × List ℕ) → List Part
+length_end_parts e = length_parts e.0 ++ copy_flag_parts ++ end_parts e.1.0 e.1.1

@@ -64,3 +64,10 @@ pub record FrontIf {X : Type 0} (Next : List Part → Type 0) (Fits : X → Type
   pub shorter : length rest < length tokens
   pub on : (ps : List Part) → Spelt line rest ps → Spelt line tokens (parts x ++ ps)
   pub back : (y : X) (ps : List Part) → Next ps → Fits y → Spelt line tokens (parts y ++ ps) → Behind y x line rest ps
+
+-- the same of a front that may be spelled by nothing
+pub record Ahead {X : Type 0} (Next : List Part → Type 0) (Fits : X → Type 0) (parts : X → List Part) (line : List ℕ) (tokens : List Token) (x : X) (rest : List Token) : Type 0 where
+  pub fits : Fits x
+  pub owned : All (IsTokenOf line) rest
+  pub on : (ps : List Part) → Spelt line rest ps → Spelt line tokens (parts x ++ ps)
+  pub back : (y : X) (ps : List Part) → Next ps → Fits y → Spelt line tokens (parts y ++ ps) → Behind y x line rest ps

@@ -1,6 +1,10 @@
 pub mod CallFronts
 pub mod Cuts
+pub mod Ends
 pub mod FlagFronts
 pub mod Found
 pub mod Front
+pub mod GepFronts
+pub mod Heads
 pub mod ListFronts
+pub mod TermFronts

@@ -4,7 +4,10 @@ use Rattle.ms_lex.specs.Line.{IsTokenOf}
 use Rattle.ms_lex.specs.declared.token.Token.{Token}
 use Rattle.ms_grammar.specs.declared.keyword.Keyword.TheVariants as word
 use Rattle.ms_grammar.specs.Parts.{Part, blank, kept, tail}
-use Rattle.ms_grammar.specs.Form.{word_part, listed}
+use Rattle.ms_grammar.specs.Form.{word_part, listed, entry_parts}
+use Rattle.ms_grammar.specs.Fits.{IsEntryOf}
+use Rattle.ms_grammar.specs.declared.line.RawEntry.{RawEntry}
+use Rattle.ms_ir.specs.declared.names.Ty.{Ty}
 use Rattle.ms_grammar.specs.Kept.{Each}
 use Rattle.ms_line_insts.specs.Front.{Spelt, Behind}
 
@@ -27,3 +30,10 @@ IsTail ps = (text : List ℕ) × (ps ≡ kept tail text ∷ [])
 -- a member behind a comma
 abbrev pub behind_comma : {X : Type 0} → (X → List Part) → X → List Part
 behind_comma parts x = word_part word.Comma ∷ blank ∷ parts x
+
+-- the entries of a phi, and the tail
+abbrev pub AreEntries : Ty → List RawEntry × List ℕ → Type 0
+AreEntries ty e = (e.0 ≢ []) × Each (IsEntryOf ty) e.0
+
+abbrev pub entries_end_parts : List RawEntry × List ℕ → List Part
+entries_end_parts e = listed (map entry_parts e.0) ++ kept tail e.1 ∷ []

@@ -6,12 +6,15 @@ ghost use Rattle.ms_ir.specs.declared.names.Ty.{Ty};
 ghost use Rattle.ms_ir.specs.declared.names.Name.{Name};
 ghost use Rattle.ms_grammar.specs.Words.{spelling};
 ghost use Rattle.ms_grammar.specs.Parts.{joined, kept_text, result_word, texts};
+ghost use Rattle.ms_grammar.specs.Form.{arg_parts, end_parts};
 ghost use Rattle.ms_grammar.specs.Fits.{IsOwnName, IsResult, IsWordName};
 ghost use Rattle.ms_grammar.specs.declared.line.RawArg.{RawArg};
 ghost use Rattle.ms_grammar.specs.declared.line.RawInst.{RawInst};
 ghost use Rattle.ms_line_insts.specs.Found.{IsFound, SpellInst};
-ghost use Rattle.ms_line_insts.specs.Front.{NoFront, Front, Always, NoLead, Leads};
-ghost use Rattle.ms_line_insts.specs.CallFronts.{NamesResult, NoResult, length_parts, copy_flag_parts, IsCallStart, call_start_parts, copy_start_parts, callee_parts};
+ghost use Rattle.ms_line_insts.specs.Front.{Spelt, NoFront, Front, NoFrontIf, FrontIf, Ahead, Always, NoLead, Leads};
+ghost use Rattle.ms_line_insts.specs.Ends.{NoEnd, End};
+ghost use Rattle.ms_line_insts.specs.ListFronts.{behind_comma};
+ghost use Rattle.ms_line_insts.specs.CallFronts.{NamesResult, NoResult, length_parts, copy_flag_parts, IsCallStart, call_start_parts, copy_start_parts, callee_parts, BeginsMark, IsPointerArg, AreArgs, args_end_parts, ArePointers, pointers_parts, length_end_parts, IsCopyFront, copy_front_parts};
 
 use crate::args::{args_front, call_end, count_front, pointer_front};
 use crate::cuts::{attributes_cut, mark_cut, written_cut};
@@ -19,7 +22,7 @@ use crate::found::FoundInst;
 use crate::groups::{behind_lead, behind_type, is_number};
 use crate::joins::{join, join_kept, words_text};
 use crate::steps::{behind_word, split};
-use ms_grammar::{Keyword, RawInst, keyword_bytes, ty_bytes};
+use ms_grammar::{Keyword, RawArg, RawArgs, RawInst, keyword_bytes, ty_bytes};
 use ms_ir::{Name, NoMemory, Text, Ty};
 use ms_lex::Token;
 use std::alloc::Global;
@@ -156,6 +159,25 @@ fn call_start<'a>(
     Ok(Some(((ret, head, callee), rest)))
 }
 
+// The arguments of a call, and what is kept behind them.
+fn args_end(
+    alloc: Global,
+    line: &[u8],
+    tokens: &[Token],
+) -> Result<Option<(RawArgs, (Text, Text))>, NoMemory>
+    requires { All (IsTokenOf line.now) tokens.now }
+    ensures { IfOk result (λ found. MatchOption found (NoEnd AreArgs args_end_parts line.now tokens.now)
+        (End AreArgs args_end_parts line.now tokens.now)) }
+{
+    let Some((args, at_end)) = args_front(alloc, line, tokens)? else {
+        return Ok(None);
+    };
+    match call_end(alloc, line, at_end)? {
+        Some(end) => Ok(Some((args, end))),
+        None => Ok(None),
+    }
+}
+
 // `call ATTRIBUTES RESULT CALLEE(ARGUMENTS) ATTRIBUTES`.
 pub fn call(alloc: Global, line: &[u8], tokens: &[Token]) -> Result<Option<FoundInst>, NoMemory>
     requires { All (IsTokenOf line.now) tokens.now }
@@ -166,13 +188,11 @@ pub fn call(alloc: Global, line: &[u8], tokens: &[Token]) -> Result<Option<Found
     let Some((start, at_args)) = call_start(alloc, line, tokens)? else {
         return Ok(None);
     };
-    let Some((args, at_end)) = args_front(alloc, line, at_args)? else {
-        return Ok(None);
-    };
-    let Some((post, tail)) = call_end(alloc, line, at_end)? else {
+    let Some(end) = args_end(alloc, line, at_args)? else {
         return Ok(None);
     };
     let (ret, head, callee) = start;
+    let (args, (post, tail)) = end;
     Ok(Some(FoundInst::Whole(RawInst::Call {
         callee,
         ret,
@@ -210,6 +230,91 @@ fn copy_start<'a>(
     Ok(Some((Text::from_vec(text), rest)))
 }
 
+// A pointer behind a comma.
+fn further_pointer<'a>(
+    alloc: Global,
+    line: &[u8],
+    tokens: &'a [Token],
+) -> Result<Option<(RawArg, &'a [Token])>, NoMemory>
+    requires { All (IsTokenOf line.now) tokens.now }
+    ensures { IfOk result (λ found. MatchOption found (NoFrontIf (BeginsMark line.now) IsPointerArg (behind_comma arg_parts) line.now tokens.now)
+        (λ f. FrontIf (BeginsMark line.now) IsPointerArg (behind_comma arg_parts) line.now tokens.now f.0 f.1.now)) }
+{
+    let Some(behind) = behind_lead(line, tokens, Keyword::Comma) else {
+        return Ok(None);
+    };
+    pointer_front(alloc, line, behind)
+}
+
+// The two pointers of a memcpy.
+fn pointers_front<'a>(
+    alloc: Global,
+    line: &[u8],
+    tokens: &'a [Token],
+) -> Result<Option<((RawArg, RawArg), &'a [Token])>, NoMemory>
+    requires { All (IsTokenOf line.now) tokens.now }
+    ensures { IfOk result (λ found. MatchOption found (NoFrontIf (BeginsMark line.now) ArePointers pointers_parts line.now tokens.now)
+        (λ f. Ahead (BeginsMark line.now) ArePointers pointers_parts line.now tokens.now f.0 f.1.now)) }
+{
+    let Some((to, at_comma)) = pointer_front(alloc, line, tokens)? else {
+        return Ok(None);
+    };
+    match further_pointer(alloc, line, at_comma)? {
+        Some((from, rest)) => Ok(Some(((to, from), rest))),
+        None => Ok(None),
+    }
+}
+
+// What is behind the length of a memcpy.
+fn flag_end(alloc: Global, line: &[u8], tokens: &[Token]) -> Result<Option<(Text, Text)>, NoMemory>
+    requires { All (IsTokenOf line.now) tokens.now }
+    ensures { IfOk result (λ found. MatchOption found ((post rest : List ℕ) → Spelt line.now tokens.now (copy_flag_parts ++ end_parts post rest) → ⊥)
+        (λ f. Spelt line.now tokens.now (copy_flag_parts ++ end_parts f.0 f.1))) }
+{
+    let Some(behind) = behind_flag(line, tokens) else {
+        return Ok(None);
+    };
+    call_end(alloc, line, behind)
+}
+
+// The length of a memcpy and what is behind it.
+fn length_end(
+    alloc: Global,
+    line: &[u8],
+    tokens: &[Token],
+) -> Result<Option<(Option<u32>, (Text, Text))>, NoMemory>
+    requires { All (IsTokenOf line.now) tokens.now }
+    ensures { IfOk result (λ found. MatchOption found (NoEnd Always length_end_parts line.now tokens.now)
+        (λ f. (n : ℕ) × End Always length_end_parts line.now tokens.now (n, f.1) × MatchOption f.0 (4096 < n) (λ m. (m ≡ n) × (m ≤ 4096)))) }
+{
+    let Some((len, at_flag)) = length_front(line, tokens) else {
+        return Ok(None);
+    };
+    match flag_end(alloc, line, at_flag)? {
+        Some(end) => Ok(Some((len, end))),
+        None => Ok(None),
+    }
+}
+
+// The pointers of a memcpy, behind its start.
+fn copy_front<'a>(
+    alloc: Global,
+    line: &[u8],
+    tokens: &'a [Token],
+) -> Result<Option<((Text, (RawArg, RawArg)), &'a [Token])>, NoMemory>
+    requires { All (IsTokenOf line.now) tokens.now }
+    ensures { IfOk result (λ found. MatchOption found (NoFrontIf (BeginsMark line.now) IsCopyFront copy_front_parts line.now tokens.now)
+        (λ f. Ahead (BeginsMark line.now) IsCopyFront copy_front_parts line.now tokens.now f.0 f.1.now)) }
+{
+    let Some((head, at_to)) = copy_start(alloc, line, tokens)? else {
+        return Ok(None);
+    };
+    match pointers_front(alloc, line, at_to)? {
+        Some((pointers, rest)) => Ok(Some(((head, pointers), rest))),
+        None => Ok(None),
+    }
+}
+
 // A call of `@llvm.memcpy.p0.p0.i64`. It is past its limit where the length is above 4,096.
 pub fn copy(alloc: Global, line: &[u8], tokens: &[Token]) -> Result<Option<FoundInst>, NoMemory>
     requires { All (IsTokenOf line.now) tokens.now }
@@ -217,38 +322,25 @@ pub fn copy(alloc: Global, line: &[u8], tokens: &[Token]) -> Result<Option<Found
         ((to from : RawArg) (len : ℕ) (head post rest : List ℕ) → SpellInst line.now tokens.now (RawInst.Copy to from len head post rest) → ⊥)
         (IsFound line.now tokens.now)) }
 {
-    let Some((head, at_to)) = copy_start(alloc, line, tokens)? else {
+    let Some((front, at_length)) = copy_front(alloc, line, tokens)? else {
         return Ok(None);
     };
-    let Some((to, at_comma)) = pointer_front(alloc, line, at_to)? else {
+    let Some((len, end)) = length_end(alloc, line, at_length)? else {
         return Ok(None);
     };
-    let Some(at_from) = behind_lead(line, at_comma, Keyword::Comma) else {
-        return Ok(None);
+    let Some(len) = len else {
+        return Ok(Some(FoundInst::Past(false)));
     };
-    let Some((from, at_second)) = pointer_front(alloc, line, at_from)? else {
-        return Ok(None);
-    };
-    let Some((len, at_flag)) = length_front(line, at_second) else {
-        return Ok(None);
-    };
-    let Some(at_end) = behind_flag(line, at_flag) else {
-        return Ok(None);
-    };
-    let Some((post, tail)) = call_end(alloc, line, at_end)? else {
-        return Ok(None);
-    };
-    match len {
-        Some(len) => Ok(Some(FoundInst::Whole(RawInst::Copy {
-            to,
-            from,
-            len,
-            head,
-            post,
-            tail,
-        }))),
-        None => Ok(Some(FoundInst::Past(false))),
-    }
+    let (head, (to, from)) = front;
+    let (post, tail) = end;
+    Ok(Some(FoundInst::Whole(RawInst::Copy {
+        to,
+        from,
+        len,
+        head,
+        post,
+        tail,
+    })))
 }
 
 // The length of a memcpy behind a comma, and nothing in its place where it is above 4,096.

@@ -6,6 +6,7 @@ ghost use Rattle.ms_grammar.specs.Parts.{joined, kept_text, texts};
 ghost use Rattle.ms_grammar.specs.declared.line.RawVal.{RawVal};
 ghost use Rattle.ms_grammar.specs.declared.line.RawInst.{RawInst};
 ghost use Rattle.ms_line_insts.specs.Found.{IsFound, SpellInst};
+ghost use Rattle.ms_line_insts.specs.GepFronts.{NoGepHead, GepCut, NoIndices, Indices};
 
 use crate::cuts::{attributes_cut, indices_cut, object_cut};
 use crate::found::FoundInst;
@@ -67,6 +68,47 @@ fn head_text(
     Ok(Text::from_vec(text))
 }
 
+// The attributes and the type of a getelementptr, cut off.
+fn head_cut<'a>(
+    alloc: Global,
+    line: &[u8],
+    tokens: &'a [Token],
+) -> Result<Option<((&'a [Token], &'a [Token]), &'a [Token])>, NoMemory>
+    requires { All (IsTokenOf line.now) tokens.now }
+    ensures { IfOk result (λ found. MatchOption found (NoGepHead line.now tokens.now)
+        (λ f. GepCut line.now tokens.now f.0.0.now f.0.1.now f.1.now)) }
+{
+    let Some(at_head) = behind_lead(line, tokens, Keyword::Getelementptr) else {
+        return Ok(None);
+    };
+    let (before, at_object) = attributes_cut(alloc, line, at_head)?;
+    match object_cut(line, at_object) {
+        Some((object, rest)) => Ok(Some(((before, object), rest))),
+        None => Ok(None),
+    }
+}
+
+// The indices of a getelementptr, cut off, and what is kept behind them.
+fn indices_end<'a>(
+    alloc: Global,
+    line: &[u8],
+    tokens: &'a [Token],
+) -> Result<Option<(&'a [Token], Text)>, NoMemory>
+    requires { All (IsTokenOf line.now) tokens.now }
+    ensures { IfOk result (λ found. MatchOption found (NoIndices line.now tokens.now) (λ f. Indices line.now tokens.now f.0.now f.1)) }
+{
+    let Some(at_index) = behind_lead(line, tokens, Keyword::Comma) else {
+        return Ok(None);
+    };
+    let Some((indices, at_tail)) = indices_cut(line, at_index) else {
+        return Ok(None);
+    };
+    match end_tail(alloc, line, at_tail)? {
+        Some(tail) => Ok(Some((indices, tail))),
+        None => Ok(None),
+    }
+}
+
 // `getelementptr ATTRIBUTES TYPE, ptr BASE, INDICES`. It is past its limit where the indices come to more than
 // 2^31 bytes either way.
 pub fn element_pointer(
@@ -79,28 +121,18 @@ pub fn element_pointer(
         ((base : RawVal) (offset : ℤ) (head index rest : List ℕ) → SpellInst line.now tokens.now (RawInst.Gep base offset head index rest) → ⊥)
         (IsFound line.now tokens.now)) }
 {
-    let Some(at_head) = behind_lead(line, tokens, Keyword::Getelementptr) else {
+    let Some(((before, object), at_base)) = head_cut(alloc, line, tokens)? else {
         return Ok(None);
     };
-    let (before, at_object) = attributes_cut(alloc, line, at_head)?;
-    let Some((object, at_base)) = object_cut(line, at_object) else {
+    let Some((base, at_index)) = further_given(alloc, line, at_base, Ty::Ptr)? else {
         return Ok(None);
     };
-    let Some((base, at_comma)) = further_given(alloc, line, at_base, Ty::Ptr)? else {
-        return Ok(None);
-    };
-    let Some(at_index) = behind_lead(line, at_comma, Keyword::Comma) else {
-        return Ok(None);
-    };
-    let Some((indices, at_tail)) = indices_cut(line, at_index) else {
+    let Some((indices, tail)) = indices_end(alloc, line, at_index)? else {
         return Ok(None);
     };
     if !fit(line, object, indices) {
         return Ok(None);
     }
-    let Some(tail) = end_tail(alloc, line, at_tail)? else {
-        return Ok(None);
-    };
     let Some(offset) = ms_line_parts::offset(line, object, indices) else {
         return Ok(Some(FoundInst::Past(false)));
     };

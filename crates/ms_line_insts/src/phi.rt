@@ -8,13 +8,14 @@ ghost use Rattle.ms_grammar.specs.declared.line.RawEntry.{RawEntry};
 ghost use Rattle.ms_grammar.specs.declared.line.RawInst.{RawInst};
 ghost use Rattle.ms_line_insts.specs.Found.{IsFound, SpellInst};
 ghost use Rattle.ms_line_insts.specs.Front.{NoFront, Front};
-ghost use Rattle.ms_line_insts.specs.ListFronts.{NoList, ListFront, IsTail, behind_comma};
+ghost use Rattle.ms_line_insts.specs.Ends.{NoEnd, End};
+ghost use Rattle.ms_line_insts.specs.ListFronts.{NoList, ListFront, IsTail, behind_comma, AreEntries, entries_end_parts};
 
 use crate::found::FoundInst;
-use crate::groups::{behind_lead, end_tail};
-use crate::steps::{behind_word, local_front, type_front, value_front};
+use crate::groups::{behind_lead, end_tail, type_lead};
+use crate::steps::{behind_word, local_front, value_front};
 use ms_grammar::{Keyword, RawEntries, RawEntry, RawInst};
-use ms_ir::{NoMemory, Ty};
+use ms_ir::{NoMemory, Text, Ty};
 use ms_lex::Token;
 use std::alloc::Global;
 
@@ -88,6 +89,26 @@ fn entries<'a>(
     Ok(Some((entries, at)))
 }
 
+// All entries, up to the line's end.
+fn entries_end(
+    alloc: Global,
+    line: &[u8],
+    tokens: &[Token],
+    ty: Ty,
+) -> Result<Option<(RawEntries, Text)>, NoMemory>
+    requires { All (IsTokenOf line.now) tokens.now }
+    ensures { IfOk result (λ found. MatchOption found (NoEnd (AreEntries ty) entries_end_parts line.now tokens.now)
+        (End (AreEntries ty) entries_end_parts line.now tokens.now)) }
+{
+    let Some((list, at_tail)) = entries(alloc, line, tokens, ty)? else {
+        return Ok(None);
+    };
+    match end_tail(alloc, line, at_tail)? {
+        Some(tail) => Ok(Some((list, tail))),
+        None => Ok(None),
+    }
+}
+
 // `phi TYPE [ VALUE, BLOCK ], ..`.
 pub fn phi(alloc: Global, line: &[u8], tokens: &[Token]) -> Result<Option<FoundInst>, NoMemory>
     requires { All (IsTokenOf line.now) tokens.now }
@@ -95,21 +116,11 @@ pub fn phi(alloc: Global, line: &[u8], tokens: &[Token]) -> Result<Option<FoundI
         ((ty : Ty) (entries : List RawEntry) (rest : List ℕ) → SpellInst line.now tokens.now (RawInst.Phi ty entries rest) → ⊥)
         (IsFound line.now tokens.now)) }
 {
-    let Some(at_type) = behind_lead(line, tokens, Keyword::Phi) else {
+    let Some((ty, at_entries)) = type_lead(line, tokens, Keyword::Phi) else {
         return Ok(None);
     };
-    let Some((ty, at_entries)) = type_front(line, at_type) else {
-        return Ok(None);
-    };
-    let Some((list, at_tail)) = entries(alloc, line, at_entries, ty)? else {
-        return Ok(None);
-    };
-    match end_tail(alloc, line, at_tail)? {
-        Some(tail) => Ok(Some(FoundInst::Whole(RawInst::Phi {
-            ty,
-            entries: list,
-            tail,
-        }))),
+    match entries_end(alloc, line, at_entries, ty)? {
+        Some((entries, tail)) => Ok(Some(FoundInst::Whole(RawInst::Phi { ty, entries, tail }))),
         None => Ok(None),
     }
 }
