@@ -50,7 +50,8 @@ fn sort_of_instruction(inst: &RawInst) -> Sort
     }
 }
 
-fn sort_of_line(line: &Line) -> Sort
+/// The sort of what a line says.
+pub fn sort_of_line(line: &Line) -> Sort
     ensures { result ≡ sort_of line.now }
 {
     match line {

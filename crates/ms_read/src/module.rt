@@ -10,27 +10,11 @@ use crate::fault::ReadFault;
 use crate::place::Progress;
 use crate::rows::next_row;
 use ms_ir::{Items, NoMemory};
-use ms_line::{Line, LineFault, RawInst, Sort, read_line, sort_of};
+use ms_line::{Line, LineFault, Sort, read_line, sort_of, sort_of_line};
 use std::alloc::Global;
 
 /// The lines of a module's text that say something, in order, each with its number, counted from 1.
 pub type Draft = Items<(u32, Line)>;
-
-fn sort_of_line(line: &Line) -> Sort
-    ensures { result ≡ sorts.sort_of line.now }
-{
-    match line {
-        Line::Empty => Sort::Blank,
-        Line::Close => Sort::Close,
-        Line::Kept(_) | Line::Group(_, _) | Line::GlobalVar(_, _) | Line::Declare(_) => Sort::Item,
-        Line::Label(_) => Sort::Label,
-        Line::Define(_) => Sort::Define,
-        Line::Inst(_, RawInst::Alloca { .. }) => Sort::Alloca,
-        Line::Inst(_, RawInst::Phi { .. }) => Sort::Phi,
-        Line::Inst(_, _) => Sort::Other,
-        Line::Term(_) => Sort::Term,
-    }
-}
 
 // Why a row that passes a limit of its own fails.
 fn fault_of_long(alloc: Global, at: Progress, number: u32, row: &[u8]) -> ReadFault

@@ -5,6 +5,7 @@ ghost use Rattle.ms_ir.specs.Graph.{graph_of, defs_of, is_def};
 ghost use Rattle.ms_flow.specs.Table.{edges_of};
 ghost use Rattle.ms_build.specs.Built.{IsFormOf};
 
+use ms_build::Formed;
 use ms_climb::{Writes, last_at_end, last_before};
 use ms_flow::Flow;
 use ms_form::{Access, Form};
@@ -68,7 +69,8 @@ fn at_end(
     assert!(rt; b < flow.block_count());
     assert!(rt; flow.reached(BlockNo(b)));
     let counted = Only { func, number };
-    let found = last_at_end(alloc, func, flow, form, &counted, BlockNo(b));
+    let formed = Formed { func, flow, form };
+    let found = last_at_end(alloc, &formed, &counted, BlockNo(b));
     found.ok().expect(rt, "memory")
 }
 
@@ -92,7 +94,8 @@ fn before(
     assert!(rt; b.0 < flow.block_count());
     assert!(rt; flow.reached(b));
     let counted = Only { func, number };
-    let found = last_before(alloc, func, flow, form, &counted, InstNo(i));
+    let formed = Formed { func, flow, form };
+    let found = last_before(alloc, &formed, &counted, InstNo(i));
     found.ok().expect(rt, "memory")
 }
 
@@ -177,7 +180,8 @@ fn times_asked(
     assert!(rt; b < flow.block_count());
     assert!(rt; flow.reached(BlockNo(b)));
     let counted = Asked { times: &times };
-    let found = last_at_end(alloc, func, flow, form, &counted, BlockNo(b));
+    let formed = Formed { func, flow, form };
+    let found = last_at_end(alloc, &formed, &counted, BlockNo(b));
     assert!(rt; found.ok().expect(rt, "memory") == Access::Entry);
     times
 }

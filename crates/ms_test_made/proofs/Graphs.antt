@@ -6,7 +6,7 @@ use Rattle.std.proofs.lemmas.List.{get_or_past}
 use Rattle.ms_paths.specs.Flow.{IsClosed, block_at}
 use Rattle.ms_ir.specs.Func.{Block, no_block}
 use Rattle.ms_ir.specs.Graph.{graph_of, successors}
-use Rattle.ms_build.proofs.Shapes.{length-graph_of}
+use Rattle.ms_flow.proofs.Tables.{length-graph_of}
 
 -- the first blocks lead to blocks
 abbrev pub AreTargets : List Block → ℕ → Type 0

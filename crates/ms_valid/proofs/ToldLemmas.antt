@@ -2,7 +2,8 @@
 use Rattle.std.proofs.Common.{◌≡◌, ℕ, ◌+◌, ◌<◌, ◌≤◌, ◌⊎◌, min, Option, Some, None, sym, subst, inl, inr, ⊎_elim, arith}
 use Rattle.std.proofs.lemmas.Bool.{cases_eq, cases_lt}
 use Rattle.ms_valid.specs.Cause.{IsLeast}
-use Rattle.ms_valid.specs.Told.{Tells, least_of}
+use Rattle.ms_valid.specs.Told.{Tells}
+use Rattle.ms_names.specs.Draft.{earlier}
 
 -- the first ones, i of them, have the fault
 abbrev pub Before : (ℕ → ℕ → Type 0) → ℕ → ℕ → Type 0
@@ -15,7 +16,7 @@ pub told_like : (P Q : ℕ → Type 0) (o : Option ℕ) → ((n : ℕ) → P n �
 told_like P Q None there back t = λ n h. t n (back n h)
 told_like P Q (Some k) there back t = record { has = there k t.has; least = λ m lt h. t.least m lt (back m h) }
 
-pub told_either : (P Q : ℕ → Type 0) (a b : Option ℕ) → Tells P a → Tells Q b → Tells (λ n. P n ⊎ Q n) (least_of a b)
+pub told_either : (P Q : ℕ → Type 0) (a b : Option ℕ) → Tells P a → Tells Q b → Tells (λ n. P n ⊎ Q n) (earlier a b)
 told_either P Q None None s t = λ n h. ⊎_elim (λ (p : P n). s n p) (λ (q : Q n). t n q) h
 told_either P Q None (Some k) s t = record { has = inr t.has; least = λ m lt h. ⊎_elim (λ (p : P m). s m p) (λ (q : Q m). t.least m lt q) h }
 told_either P Q (Some j) None s t = record { has = inl s.has; least = λ m lt h. ⊎_elim (λ (p : P m). s.least m lt p) (λ (q : Q m). t m q) h }
@@ -34,9 +35,9 @@ told_either P Q (Some j) (Some k) s t =
 pub told_none : (At : ℕ → ℕ → Type 0) → Tells (Before At 0) None
 told_none At = λ n h. let lt = h.1 in omega arith
 
-pub told_more : (At : ℕ → ℕ → Type 0) (i : ℕ) (a b : Option ℕ) → Tells (Before At i) a → Tells (At i) b → Tells (Before At (i + 1)) (least_of a b)
+pub told_more : (At : ℕ → ℕ → Type 0) (i : ℕ) (a b : Option ℕ) → Tells (Before At i) a → Tells (At i) b → Tells (Before At (i + 1)) (earlier a b)
 told_more At i a b s t =
-    told_like (λ n. Before At i n ⊎ At i n) (Before At (i + 1)) (least_of a b)
+    told_like (λ n. Before At i n ⊎ At i n) (Before At (i + 1)) (earlier a b)
     (λ n h. ⊎_elim (λ (w : Before At i n). (w.0, let lt = w.1 in omega arith, w.2)) (λ (x : At i n). (i, omega arith, x)) h)
     (λ n h. ⊎_elim (λ (e : h.0 ≡ i). inr (subst (λ j. At j n) e h.2)) (λ (ne : h.0 ≡ i → ⊥). inl (h.0, let lt = h.1 in omega arith, h.2)) (cases_eq h.0 i))
     (told_either (Before At i) (At i) a b s t)

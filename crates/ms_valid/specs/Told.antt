@@ -1,5 +1,5 @@
 -- What is told of one line of a function: its faults, by the instruction or terminator and the place where it stands.
-use Rattle.std.specs.Prelude.{◌≡◌, ◌⊎◌, ◌<◌, ℕ, List, Option, Some, None, min, Contains, slice_get, MatchOption}
+use Rattle.std.specs.Prelude.{◌≡◌, ◌⊎◌, ◌<◌, ℕ, List, Option, Some, Contains, slice_get, MatchOption}
 use Rattle.ms_paths.specs.Flow.{IsClosed}
 use Rattle.ms_ir.specs.declared.inst.Inst.{Inst}
 use Rattle.ms_ir.specs.declared.inst.Term.{Term}
@@ -43,12 +43,6 @@ TermFault Order f b term = HasUseBefore f (term_uses_at f.blocks b term)
 -- the least that has a fault, where one has
 abbrev pub Tells : (ℕ → Type 0) → Option ℕ → Type 0
 Tells Has found = MatchOption found (HasNone Has) (IsLeast Has)
-
--- the less of two, where they are there
-abbrev pub least_of : Option ℕ → Option ℕ → Option ℕ
-least_of None b = b
-least_of (Some m) None = Some m
-least_of (Some m) (Some n) = Some (min m n)
 
 abbrev pub as_use : Used → Use
 as_use u = record { block = u.at.block; place = u.at.place; val = u.val }

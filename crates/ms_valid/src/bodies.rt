@@ -8,10 +8,10 @@ ghost use Rattle.ms_valid.specs.Faults.{IsIrreducible, bodies_there};
 ghost use Rattle.ms_valid.specs.Told.{ModuleHas, PlaceHas, Tells, AreClosed};
 
 use crate::body::body_fault;
-use crate::least::least;
 use crate::phase::Phase;
 use ms_flow::Flow;
 use ms_ir::{Func, FuncNo, Items, Module, NoMemory};
+use ms_names::earlier;
 use ms_resolve::BodyLines;
 use std::alloc::Global;
 
@@ -51,7 +51,7 @@ pub fn module_fault(
     for f in 0..limit {
         match m.func(FuncNo(f)) {
             Some(func) => {
-                found = least(found, place_fault(alloc, phase, m, func, lines, place)?);
+                found = earlier(found, place_fault(alloc, phase, m, func, lines, place)?);
                 place += 1;
             }
             None => {}

@@ -6,13 +6,13 @@ ghost use Rattle.ms_valid.specs.Told.{BodyHas, InstFault, InstHas, TermFault, Te
 ghost use Rattle.ms_valid.specs.View.{IsView};
 
 use crate::edges::{bad_entries, leads_to_first};
-use crate::least::least;
 use crate::order::{inst_order, spot_of, term_order};
 use crate::phase::Phase;
 use crate::spots::Spot;
 use crate::types::{inst_types, term_types};
 use crate::view::{View, view_of};
 use ms_ir::{BlockNo, Func, Inst, InstNo, Items, Module, NoMemory, Steps, Term};
+use ms_names::earlier;
 use ms_resolve::BodyLines;
 use std::alloc::Global;
 
@@ -90,7 +90,7 @@ fn least_inst(
     func.numbered();
     let mut found = None;
     for i in 0..func.made() {
-        found = least(
+        found = earlier(
             found,
             inst_line(alloc, phase, m, func, view, lines, InstNo(i))?,
         );
@@ -155,7 +155,7 @@ fn least_term(
     let mut steps = Steps::new(alloc)?;
     let mut found = None;
     for b in 0..func.block_count() {
-        found = least(
+        found = earlier(
             found,
             term_line(phase, func, view, lines, BlockNo(b), &mut steps),
         );
@@ -177,5 +177,5 @@ pub fn body_fault(
     let mut view = view_of(alloc, func)?;
     let inst = least_inst(alloc, phase, m, func, &mut view, &lines.insts)?;
     let term = least_term(alloc, phase, func, &mut view, &lines.terms)?;
-    Ok(least(inst, term))
+    Ok(earlier(inst, term))
 }

@@ -45,7 +45,6 @@ mod bodies;
 mod body;
 mod edges;
 mod fault;
-mod least;
 mod module;
 mod operands;
 mod order;

@@ -7,11 +7,11 @@ ghost use Rattle.ms_valid.specs.declared.phase.Phase.TheVariants.{Types};
 
 use crate::bodies::{first_irreducible, module_fault};
 use crate::fault::ValidFault;
-use crate::least::least;
 use crate::phase::Phase;
 use crate::raw::draft_fault;
 use ms_grammar::Line;
 use ms_ir::{Items, Module, NoMemory};
+use ms_names::earlier;
 use ms_resolve::{BodyLines, Resolved, resolve};
 use std::alloc::Global;
 
@@ -29,7 +29,7 @@ fn type_fault(
 {
     let inside = module_fault(alloc, Phase::Types, m, lines, limit)?;
     let named = draft_fault(alloc, m.names(), draft)?;
-    Ok(least(inside, named))
+    Ok(earlier(inside, named))
 }
 
 // What keeps a module of this many functions at most from being accepted, once its names are resolved.

@@ -10,10 +10,10 @@ ghost use Rattle.ms_resolve.specs.Used.{arg_value, callee_of, entry_value, globa
 ghost use Rattle.ms_valid.specs.Raw.{HasName, LineHas, RawFault};
 ghost use Rattle.ms_valid.specs.Told.{Tells};
 
-use crate::least::least;
 use itoa::Buffer;
 use ms_grammar::{Line, RawArgs, RawEntries, RawInst, RawTerm, RawVal};
 use ms_ir::{Items, Name, Names, NoMemory, Text};
+use ms_names::earlier;
 use std::alloc::Global;
 
 // The text of a name.
@@ -217,7 +217,7 @@ pub fn draft_fault(
 {
     let mut found = None;
     for k in 0..draft.len() {
-        found = least(found, raw_line(alloc, names, draft, k)?);
+        found = earlier(found, raw_line(alloc, names, draft, k)?);
     }
     Ok(found)
 }

@@ -28,8 +28,8 @@ loop-f-preserved c =
     elim c.match-func.branch [
       | in-Some+in_ok-place_fault-in-Some w ↦
           let more = bodies_more bodies f w.in-Some.func.now (body_found (slice_get bodies f) w.in-Some.func.now w.in-Some.ensures) in
-          let found : Tells (Before At (c.loop-f.place + 1)) w.least-found.result =
-          subst (λ (o : Option ℕ). Tells (Before At (c.loop-f.place + 1)) o) (sym w.least-found.ensures)
+          let found : Tells (Before At (c.loop-f.place + 1)) w.earlier-found.result =
+          subst (λ (o : Option ℕ). Tells (Before At (c.loop-f.place + 1)) o) (sym w.earlier-found.ensures)
           (told_more At c.loop-f.place c.loop-f.found w.in_ok-place_fault-in-Some.field-0 c.loop-f.invariant.2 w.in_ok-place_fault-in-Some.ensures) in
           rw (w.place-is, w.found-is) (omega arith, omega arith, found)
       | in-None w ↦

@@ -7,7 +7,7 @@ pub loop-i-preserved : goal.loop-i-preserved
 loop-i-preserved c =
     let At = InstHas c.args.phase c.args.m.now c.args.func.now c.args.lines.now in (
       c.inst_line.ensures.view,
-      subst (λ (o : Option ℕ). Tells (Before At (c.loop-i.i + 1)) o) (sym c.least-found.ensures)
+      subst (λ (o : Option ℕ). Tells (Before At (c.loop-i.i + 1)) o) (sym c.earlier-found.ensures)
           (told_more At c.loop-i.i c.loop-i.found c.in_ok-inst_line.field-0 c.loop-i.invariant.1 c.in_ok-inst_line.ensures.told),
     )
 

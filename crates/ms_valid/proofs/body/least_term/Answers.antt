@@ -8,7 +8,7 @@ pub loop-b-preserved : goal.loop-b-preserved
 loop-b-preserved c =
     let At = TermHas c.args.phase c.args.func.now c.args.lines.now in (
       c.term_line.ensures.view,
-      subst (λ (o : Option ℕ). Tells (Before At (c.loop-b.b + 1)) o) (sym c.least-found.ensures)
+      subst (λ (o : Option ℕ). Tells (Before At (c.loop-b.b + 1)) o) (sym c.earlier-found.ensures)
           (told_more At c.loop-b.b c.loop-b.found c.term_line.result c.loop-b.invariant.1 c.term_line.ensures.told),
     )
 

@@ -8,7 +8,7 @@ use Rattle.ms_valid.proofs.raw.draft_fault.Goals as goal
 pub loop-k-preserved : goal.loop-k-preserved
 loop-k-preserved c =
     let At = LineHas c.args.names.now c.args.draft.now in
-    subst (λ (o : Option ℕ). Tells (Before At (c.loop-k.k + 1)) o) (sym c.least-found.ensures)
+    subst (λ (o : Option ℕ). Tells (Before At (c.loop-k.k + 1)) o) (sym c.earlier-found.ensures)
     (told_more At c.loop-k.k c.loop-k.found c.in_ok-raw_line.field-0 c.loop-k.invariant c.in_ok-raw_line.ensures)
 
 pub returns : goal.returns
