@@ -4,7 +4,6 @@ use Rattle.std.specs.Str.{bytes_eq}
 use Rattle.ms_ir.specs.declared.names.Name.{Name}
 use Rattle.ms_ir.specs.declared.names.Name.TheVariants.{Absent}
 use Rattle.ms_ir.specs.declared.names.Ty.{Ty}
-use Rattle.ms_ir.specs.declared.names.Ty.TheVariants.{Ptr}
 use Rattle.ms_ir.specs.declared.names.Mark.{Mark}
 use Rattle.ms_ir.specs.declared.names.Param.{Param}
 use Rattle.ms_ir.specs.declared.names.BlockNo.{BlockNo}
