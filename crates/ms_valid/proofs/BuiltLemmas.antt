@@ -140,7 +140,7 @@ names_length l =
     length-map (filter (λ (m : Made). m.is_block) (named_in l)) name_of_made ∙ count_named 0 (made_in l)
     ∙ count_append (map (param_made l.line) l.head.params) (flat_map (block_made l.line) l.blocks) ∙ omega arith
 
-first_below : (p : Name → Bool) (xs : List Name) → 0 < length xs → or_first (position p xs) < length xs
+pub first_below : (p : Name → Bool) (xs : List Name) → 0 < length xs → or_first (position p xs) < length xs
 first_below p xs lt =
     cond_both (nat_lt (position_or_len p xs) (length xs)) (Some (position_or_len p xs)) None (λ (o : Option ℕ). or_first o < length xs)
     (λ e. ltb-true (position_or_len p xs) (length xs) e) (λ e. lt)
