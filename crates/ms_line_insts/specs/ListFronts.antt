@@ -4,9 +4,11 @@ use Rattle.ms_lex.specs.Line.{IsTokenOf}
 use Rattle.ms_lex.specs.declared.token.Token.{Token}
 use Rattle.ms_grammar.specs.declared.keyword.Keyword.TheVariants as word
 use Rattle.ms_grammar.specs.Parts.{Part, blank, kept, tail}
-use Rattle.ms_grammar.specs.Form.{word_part, listed, entry_parts}
+use Rattle.ms_grammar.specs.Form.{word_part, value_part, local_part, comma_parts, listed, entry_parts}
 use Rattle.ms_grammar.specs.Fits.{IsEntryOf}
 use Rattle.ms_grammar.specs.declared.line.RawEntry.{RawEntry}
+use Rattle.ms_grammar.specs.declared.line.RawVal.{RawVal}
+use Rattle.ms_ir.specs.declared.names.Name.{Name}
 use Rattle.ms_ir.specs.declared.names.Ty.{Ty}
 use Rattle.ms_grammar.specs.Kept.{Each}
 use Rattle.ms_line_insts.specs.Front.{Spelt, Behind}
@@ -30,6 +32,16 @@ IsTail ps = (text : List ℕ) × (ps ≡ kept tail text ∷ [])
 -- a member behind a comma
 abbrev pub behind_comma : {X : Type 0} → (X → List Part) → X → List Part
 behind_comma parts x = word_part word.Comma ∷ blank ∷ parts x
+
+-- the value and the block of a phi's entry
+abbrev pub entry_value_parts : RawVal → List Part
+entry_value_parts v = word_part word.OpenSquare ∷ blank ∷ value_part v ∷ []
+
+abbrev pub entry_block_parts : Name → List Part
+entry_block_parts n = comma_parts ++ local_part n ∷ []
+
+abbrev pub entry_close_parts : Name → List Part
+entry_close_parts n = entry_block_parts n ++ blank ∷ word_part word.CloseSquare ∷ []
 
 -- the entries of a phi, and the tail
 abbrev pub AreEntries : Ty → List RawEntry × List ℕ → Type 0
