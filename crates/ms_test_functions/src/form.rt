@@ -160,5 +160,7 @@ fn a_small_form(rt: HostRuntime) {
     assert!(&rt; form.operand(BlockNo(1), 1).is_none());
     assert!(&rt; form.defining(InstNo(0)) == Some(Access::Entry));
     assert!(&rt; form.defining(InstNo(2)).is_none());
+    assert_eq!(&rt; form.slots(BlockNo(1)), 2);
+    assert_eq!(&rt; form.slots(BlockNo(3)), 0);
     assert!(&rt; form.reserve(1).is_ok());
 }

@@ -9,7 +9,7 @@ use ms_flow::Flow;
 use ms_form::{Access, Form};
 use ms_ir::{BlockNo, Func, Inst, InstNo, Name, Steps, Val};
 use ms_test_made::{P, flow_of, form_of, function, load, put, store, take};
-use ms_update::{insert, remove, shift, without_told};
+use ms_update::{insert, one_cost, remove, shift, without_told};
 use std::alloc::Global;
 use std::process::Abort;
 
@@ -315,6 +315,7 @@ fn put_and_take_everywhere(
 #[test]
 fn every_insert(rt: HostRuntime) {
     let alloc = rt.alloc();
+    one_cost();
     let mut f = small(&rt, alloc);
     let flow = flow_of(&rt, alloc, &f);
     let mut form = begin(&rt, alloc, &f, &flow);
