@@ -1,2 +1,4 @@
 pub mod Graphs
+pub mod Near
 pub mod Rooms
+pub mod Targets

@@ -1,7 +1,7 @@
 // Memory forms as they are built, by shape and the blocks that store.
+use crate::graph::{P, flow_of, form_of, function, put, store};
 use ms_form::{Access, Form};
 use ms_ir::{BlockNo, InstNo, Val};
-use ms_test_made::{P, flow_of, form_of, function, put, store};
 use std::alloc::Global;
 use std::process::Abort;
 

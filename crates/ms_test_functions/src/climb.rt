@@ -5,12 +5,12 @@ ghost use Rattle.ms_ir.specs.Graph.{graph_of, defs_of, is_def};
 ghost use Rattle.ms_flow.specs.Table.{edges_of};
 ghost use Rattle.ms_build.specs.Built.{IsFormOf};
 
+use crate::graph::{P, alloca, flow_of, form_of, function, put, put_at, store};
 use ms_build::Formed;
 use ms_climb::{Writes, last_at_end, last_before};
 use ms_flow::Flow;
 use ms_form::{Access, Form};
 use ms_ir::{BlockNo, Func, InstNo, Kind, Name, Val, kind_of};
-use ms_test_made::{P, alloca, flow_of, form_of, function, put, put_at, store};
 use std::alloc::Global;
 use std::cell::Cell;
 use std::process::Abort;

@@ -1,7 +1,7 @@
 // Flow graphs, by shape.
+use crate::graph::{flow_of, function};
 use ms_flow::Flow;
 use ms_ir::{BlockNo, Steps};
-use ms_test_made::{flow_of, function};
 use std::alloc::Global;
 use std::process::Abort;
 

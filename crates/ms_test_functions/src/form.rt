@@ -3,10 +3,10 @@ ghost use Rattle.std.specs.Prelude.{[], ◌∷◌};
 ghost use Rattle.ms_form.specs.Form.{HasPlaces, HasUser, HasAccess};
 ghost use Rattle.ms_form.specs.Counts.{pred_counts};
 
+use crate::graph::{flow_of, function};
 use ms_flow::Flow;
 use ms_form::{Access, Form, User};
 use ms_ir::{BlockNo, InstNo};
-use ms_test_made::{flow_of, function};
 use std::alloc::Global;
 use std::process::Abort;
 

@@ -2,11 +2,11 @@
 ghost use Rattle.std.specs.Prelude.{IsTrue};
 ghost use Rattle.ms_ir.specs.Changes.{IsCopyThere};
 
+use crate::graph::{NO_EFFECTS, P, add, cut, is_conditional, load, no_blocks, put, put_at, take};
 use ms_ir::{
     Arg, BlockNo, Entry, Func, FuncNo, Inst, InstNo, Items, Kind, LocalNo, Name, NoMemory, Steps,
     Term, Ty, Val, kind_of, result_type,
 };
-use ms_test_made::{NO_EFFECTS, P, add, cut, is_conditional, load, no_blocks, put, put_at, take};
 use std::alloc::Global;
 use std::process::Abort;
 use std::test::Fail;

@@ -1,5 +1,5 @@
-//! Tests of functions: instructions and blocks, flow graphs, memory forms, the search in them, edits of them, values in runs. They stand
-//! apart, since a crate with tests is proved twice; tests of pointers and sessions stand in `ms_test_pointers`.
+//! Tests of functions: instructions and blocks, flow graphs, memory forms, the search in them, edits of them, pointers, sessions, values in
+//! runs. They stand apart, since a crate with tests is proved twice.
 #![tactic(auto)]
 
 #[cfg(test)]
@@ -13,7 +13,15 @@ mod form;
 #[cfg(test)]
 mod functions;
 #[cfg(test)]
+mod graph;
+#[cfg(test)]
 mod modules;
+#[cfg(test)]
+mod pointers;
+#[cfg(test)]
+mod session;
+#[cfg(test)]
+mod starting;
 #[cfg(test)]
 mod update;
 #[cfg(test)]

@@ -2,8 +2,8 @@
 ghost use Rattle.std.specs.Prelude.{◌≡◌, ◌<◌, ◌-◌, ◌^◌, length, slice_get, IsTrue, Some, None};
 ghost use Rattle.ms_ir.specs.Module.{IsNew, IsDefined};
 
+use crate::graph::{NO_EFFECTS, no_blocks};
 use ms_ir::{Func, FuncNo, GlobalNo, Item, Items, Module, Name, NoMemory, Sig, Text, same_name};
-use ms_test_made::{NO_EFFECTS, no_blocks};
 use std::alloc::Global;
 use std::process::Abort;
 use std::test::Fail;

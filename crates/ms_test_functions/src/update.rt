@@ -5,10 +5,10 @@ ghost use Rattle.ms_ir.specs.Graph.{graph_of};
 ghost use Rattle.ms_flow.specs.Table.{edges_of};
 ghost use Rattle.ms_test_functions.specs.Together.{IsTogether};
 
+use crate::graph::{P, flow_of, form_of, function, load, put, store, take};
 use ms_flow::Flow;
 use ms_form::{Access, Form};
 use ms_ir::{BlockNo, Func, Inst, InstNo, Name, Steps, Val};
-use ms_test_made::{P, flow_of, form_of, function, load, put, store, take};
 use ms_update::{insert, one_cost, remove, shift, without_told};
 use std::alloc::Global;
 use std::process::Abort;
