@@ -52,11 +52,11 @@ same_root-Decides (Global g) (Local l) = (differ, λ e. cc)
 same_loc-Decides : (a b : Loc) → Decides (same_loc a b) (a ≡ b)
 same_loc-Decides (Bytes r from len) (Bytes s at size) = (
     λ e.
-        let one = both (same_root r s) (int_eq from at && len == size) e in
-        let two = both (int_eq from at) (len == size) one.1 in
-        (λ i. Bytes ((same_root-Decides r s).0 one.0 i) ((signed_Decides from at).0 two.0 i) ((unsigned_Decides len size).0 two.1 i)),
+        let one = both (same_root r s && int_eq from at) (len == size) e in
+        let two = both (same_root r s) (int_eq from at) one.0 in
+        (λ i. Bytes ((same_root-Decides r s).0 two.0 i) ((signed_Decides from at).0 two.1 i) ((unsigned_Decides len size).0 one.1 i)),
     λ e.
-        joined _ _ ((same_root-Decides r s).1 (cc)) (joined _ _ ((signed_Decides from at).1 (cc)) ((unsigned_Decides len size).1 (cc))))
+        joined _ _ (joined _ _ ((same_root-Decides r s).1 (cc)) ((signed_Decides from at).1 (cc))) ((unsigned_Decides len size).1 (cc)))
 same_loc-Decides (ReadBy i) (ReadBy j) = (λ e. (λ n. ReadBy (record { 0 = (unsigned_Decides i.0 j.0).0 e n })), λ e. (unsigned_Decides i.0 j.0).1 (cc))
 same_loc-Decides (Bytes r from len) (ReadBy j) = (differ, λ e. cc)
 same_loc-Decides (ReadBy i) (Bytes s at size) = (differ, λ e. cc)

@@ -1,0 +1,3 @@
+pub mod Keys
+pub mod Tested
+pub mod Filtered
