@@ -45,11 +45,12 @@ pub record Stays (f : FuncState) (e : Change) (q : Query) : Type 0 where
 abbrev pub AreWhatStays : FuncState → Change → List Kept → List Kept → Type 0
 AreWhatStays f e old new = (p : Kept → Bool) × ((x : Kept) → IsTrue (p x) ↔ Stays f e x.0) × (new ≡ filter p old)
 
--- which locations are kept matters: a Def was put, taken or moved, and nothing else drops all answers or spares them
+-- Locations count: a Def was put, taken or moved, and neither do all answers go anyway, nor the instruction's own alone.
 abbrev pub AsksLocations : Change → Type 0
 AsksLocations e = (e.def ≡ true) × (e.own_only ≡ false) × (e.captured ≡ false) × (e.unlinked ≡ false)
 
--- the same as tests, by the tables of the function's pointers
+-- The same as a test, by the tables of the function's pointers: that the instruction is the change's own, that it may write a
+-- location, and that an answer for a location stays, whatever other instruction asked.
 abbrev pub is_own : Option InstNo → InstNo → Bool
 is_own None j = false
 is_own (Some i) j = i.0 == j.0
