@@ -1,6 +1,6 @@
 -- What a filter leaves.
-use Rattle.std.proofs.Common.{◌≡◌, ◌⊎◌, inl, inr, ℕ, ◌<◌, List, [], ◌∷◌, ◌++◌, Bool, true, false, cond, filter, Contains, refl, sym, ap, ◌∙◌, subst, true≢false, arith}
-use Rattle.std.specs.Prelude.{◌↔◌, IsTrue}
+use Rattle.std.proofs.Common.{◌≡◌, inl, inr, ◌<◌, List, [], ◌∷◌, Bool, true, false, cond, filter, Contains, refl, sym, ap, ◌∙◌, subst, arith}
+use Rattle.std.specs.Prelude.{◌↔◌}
 use Rattle.std.proofs.lemmas.List.Elements.{All-contains, All-filter, All-contains_itself, filter_passes, filter_agree, Contains-append_left, Contains-append_right, Contains-append_cases, Contains-push_cases}
 use Rattle.std.proofs.lemmas.List.Kept.{AllPairs-filter}
 use Rattle.ms_ir.specs.Func.{FuncState}
@@ -10,8 +10,9 @@ use Rattle.ms_cache.specs.Stays.{Kept, Stays, AreOnce, AreWhatStays}
 module _ {A : Type 0} (p : A → Bool) where
   passed : (xs : List A) (x : A) → Contains (filter p xs) x → Contains xs x × (p x ≡ true)
   passed xs x h = (
-      All-contains (Contains xs) (filter p xs) x (All-filter p (Contains xs) xs (All-contains_itself xs)) h,
-      All-contains (λ y. p y ≡ true) (filter p xs) x (filter_passes p xs) h)
+    All-contains (Contains xs) (filter p xs) x (All-filter p (Contains xs) xs (All-contains_itself xs)) h,
+    All-contains (λ y. p y ≡ true) (filter p xs) x (filter_passes p xs) h,
+  )
 
   behind : (b : Bool) (y : A) (ys : List A) (x : A) → Contains ys x → Contains (cond b (y ∷ ys) ys) x
   behind true y ys x h = Contains-append_right (y ∷ []) ys x h
@@ -39,8 +40,9 @@ same false true h k = k refl
 module _ (f : FuncState) (e : Change) (old : List Kept) where
   pub left_told : (new : List Kept) → AreWhatStays f e old new → (x : Kept) → Contains new x ↔ (Contains old x × Stays f e x.0)
   left_told new t x = (
-      λ h. (let was = passed t.0 old x (subst (λ xs. Contains xs x) t.2 h) in (was.0, (t.1 x).0 was.1)),
-      λ h. subst (λ xs. Contains xs x) (sym t.2) (passes t.0 old x h.0 ((t.1 x).1 h.1)))
+    λ h. (let was = passed t.0 old x (subst (λ xs. Contains xs x) t.2 h) in (was.0, (t.1 x).0 was.1)),
+    λ h. subst (λ xs. Contains xs x) (sym t.2) (passes t.0 old x h.0 ((t.1 x).1 h.1)),
+  )
 
   pub left_once : (new : List Kept) → AreWhatStays f e old new → AreOnce old → AreOnce new
   left_once new t once = subst AreOnce (sym t.2) (AllPairs-filter (λ x y. x.0 ≡ y.0 → ⊥) t.0 old once)

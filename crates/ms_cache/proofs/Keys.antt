@@ -1,5 +1,5 @@
 -- Answers by their queries.
-use Rattle.std.proofs.Common.{◌≡◌, ℕ, ◌<◌, List, [], ◌∷◌, ◌++◌, Bool, true, false, Option, Some, None, Contains, refl, sym, ap, ◌∙◌, true≢false, length, arith}
+use Rattle.std.proofs.Common.{◌≡◌, ◌<◌, List, false, Option, Some, None, Contains, refl, sym, ◌∙◌, true≢false, length, arith}
 use Rattle.std.specs.List.{IsDistinct}
 use Rattle.std.specs.Map.{keys_of, lookup}
 use Rattle.std.proofs.lemmas.List.{get_or-map}

@@ -1,6 +1,6 @@
 -- The test by the tables holds of exactly the answers that stay.
 use Rattle.std.proofs.Common.{◌≡◌, ℕ, Bool, true, false, not, Option, Some, None, refl, sym, ap, ◌∙◌, true≢false}
-use Rattle.std.specs.Prelude.{◌↔◌, ◌&&◌, ◌||◌, ◌==◌, IsTrue}
+use Rattle.std.specs.Prelude.{◌↔◌, ◌&&◌, ◌||◌, IsTrue}
 use Rattle.std.specs.Cmp.{unsigned_Decides}
 use Rattle.ms_ir.specs.declared.names.InstNo.{InstNo}
 use Rattle.ms_ir.specs.Func.{FuncState}
@@ -10,7 +10,7 @@ use Rattle.ms_alias.specs.Tables.{AliasState, IsAliasOf}
 use Rattle.ms_alias.specs.Tests.{may_write_by}
 use Rattle.ms_cache.specs.declared.query.Query.{Query}
 use Rattle.ms_cache.specs.declared.change.Change.{Change}
-use Rattle.ms_cache.specs.Stays.{IsOwn, MovesWriter, Stays, AsksLocations, is_own, may_write_in, is_spared, stays_by}
+use Rattle.ms_cache.specs.Stays.{MovesWriter, Stays, AsksLocations, is_own, may_write_in, is_spared, stays_by}
 
 differ : {A : Type 0} → true ≡ false → A
 differ e = absurd (true≢false e)
@@ -72,16 +72,17 @@ module _ (f : FuncState) (a : AliasState) (told : IsAliasOf f a → (loc : Loc) 
 
   pub stays_tested : (q : Query) → IsTrue (stays_by f a e q) ↔ Stays f e q
   stays_tested q = (
-      λ h.
-          let parts = both (not (is_own e.inst q.inst)) (is_spared f a e q.loc) h in
-          let spared = spared_told q parts.1 in
-          record {
-            other = λ own. unset (is_own e.inst q.inst) parts.0 ((own_told e.inst q.inst).1 own);
-            unwritten = spared.0;
-            captures = spared.1;
-            edges = spared.2;
-          },
-      λ s.
-          joined (is_own e.inst q.inst) (is_spared f a e q.loc) (is_false (is_own e.inst q.inst) (λ own. s.other ((own_told e.inst q.inst).0 own)))
-          (flags_back e.own_only e.captured e.unlinked e.def (may_write_in f a e.inst q.loc) s.captures s.edges
-              (λ only captured cut def writes. (let w = writes_told (ready (def, only, captured, cut)) e.inst q.loc writes in s.unwritten only (def, w.0, w.1, w.2)))))
+    λ h.
+        let parts = both (not (is_own e.inst q.inst)) (is_spared f a e q.loc) h in
+        let spared = spared_told q parts.1 in
+        record {
+          other = λ own. unset (is_own e.inst q.inst) parts.0 ((own_told e.inst q.inst).1 own);
+          unwritten = spared.0;
+          captures = spared.1;
+          edges = spared.2;
+        },
+    λ s.
+        joined (is_own e.inst q.inst) (is_spared f a e q.loc) (is_false (is_own e.inst q.inst) (λ own. s.other ((own_told e.inst q.inst).0 own)))
+        (flags_back e.own_only e.captured e.unlinked e.def (may_write_in f a e.inst q.loc) s.captures s.edges
+        (λ only captured cut def writes. (let w = writes_told (ready (def, only, captured, cut)) e.inst q.loc writes in s.unwritten only (def, w.0, w.1, w.2)))),
+  )

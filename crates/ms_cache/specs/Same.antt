@@ -51,12 +51,13 @@ same_root-Decides (Global g) (Local l) = (differ, λ e. cc)
 
 same_loc-Decides : (a b : Loc) → Decides (same_loc a b) (a ≡ b)
 same_loc-Decides (Bytes r from len) (Bytes s at size) = (
-    λ e.
-        let one = both (same_root r s && int_eq from at) (len == size) e in
-        let two = both (same_root r s) (int_eq from at) one.0 in
-        (λ i. Bytes ((same_root-Decides r s).0 two.0 i) ((signed_Decides from at).0 two.1 i) ((unsigned_Decides len size).0 one.1 i)),
-    λ e.
-        joined _ _ (joined _ _ ((same_root-Decides r s).1 (cc)) ((signed_Decides from at).1 (cc))) ((unsigned_Decides len size).1 (cc)))
+  λ e.
+      let one = both (same_root r s && int_eq from at) (len == size) e in
+      let two = both (same_root r s) (int_eq from at) one.0 in
+      (λ i. Bytes ((same_root-Decides r s).0 two.0 i) ((signed_Decides from at).0 two.1 i) ((unsigned_Decides len size).0 one.1 i)),
+  λ e.
+      joined _ _ (joined _ _ ((same_root-Decides r s).1 (cc)) ((signed_Decides from at).1 (cc))) ((unsigned_Decides len size).1 (cc)),
+)
 same_loc-Decides (ReadBy i) (ReadBy j) = (λ e. (λ n. ReadBy (record { 0 = (unsigned_Decides i.0 j.0).0 e n })), λ e. (unsigned_Decides i.0 j.0).1 (cc))
 same_loc-Decides (Bytes r from len) (ReadBy j) = (differ, λ e. cc)
 same_loc-Decides (ReadBy i) (Bytes s at size) = (differ, λ e. cc)
@@ -64,11 +65,12 @@ same_loc-Decides (ReadBy i) (Bytes s at size) = (differ, λ e. cc)
 -- the test holds of one query and itself alone
 pub same_query-Decides : (a b : Query) → Decides (same_query a b) (a ≡ b)
 same_query-Decides a b = (
-    λ e.
-        let parts = both (a.inst.0 == b.inst.0) (same_loc a.loc b.loc) e in
-        (λ n. record { inst = record { 0 = (unsigned_Decides a.inst.0 b.inst.0).0 parts.0 n }; loc = (same_loc-Decides a.loc b.loc).0 parts.1 n }),
-    λ e.
-        joined _ _ ((unsigned_Decides a.inst.0 b.inst.0).1 (ap (λ (q : Query). q.inst.0) e)) ((same_loc-Decides a.loc b.loc).1 (ap (λ (q : Query). q.loc) e)))
+  λ e.
+      let parts = both (a.inst.0 == b.inst.0) (same_loc a.loc b.loc) e in
+      (λ n. record { inst = record { 0 = (unsigned_Decides a.inst.0 b.inst.0).0 parts.0 n }; loc = (same_loc-Decides a.loc b.loc).0 parts.1 n }),
+  λ e.
+      joined _ _ ((unsigned_Decides a.inst.0 b.inst.0).1 (ap (λ (q : Query). q.inst.0) e)) ((same_loc-Decides a.loc b.loc).1 (ap (λ (q : Query). q.loc) e)),
+)
 
 pub same_query_equiv : IsEquivalence same_query
 same_query_equiv = decided same_query same_query-Decides

@@ -11,8 +11,8 @@
 //!   %y = load i32, ptr %b                                      kept: (%y, four bytes of %b) is answered by 2
 //! ```
 //!
-//! A third store to `%a` is put before `%x`. It may write the bytes of the first answer, which goes, though it had been put behind `%x` as well: no
-//! path is looked at. It may not write those of the second, which stays: `%y` need not be walked for again.
+//! A third store to `%a` is put. It may write the bytes of the first answer, which goes, be the store before `%x` or behind it: no path is looked
+//! at. It may not write those of the second, which stays: `%y` need not be walked for again.
 //!
 //! ```text
 //! let mut cache = Cache::new(alloc);
@@ -27,9 +27,9 @@
 //! taken, moved or given another source, no Def that may write its location was put, taken or moved, the captured allocas are the same, and no edge
 //! was cut. Where a memcpy got another source nothing else can have another answer, so there `own_only` asks the first alone.
 //!
-//! **Why it is so.** The rule has to be cheap, and right: of a Def that may not write a location nothing depends in a walk for it. Captures change
-//! what every call may write, and a cut edge what every path is; then all answers go. That what stays is the clobber in the changed function is not
-//! said here, where no path is known, but by the crate that walks. Answers stand in a hash table: `get` and `put` do not go through the list.
+//! **Why it is so.** The rule has to be cheap, and right: no walk for a location stops at a Def that may not write it. Captures change what calls may
+//! write, and a cut edge changes the paths; then all answers go. That what stays is the clobber in the changed function is not said here, where no
+//! path is known. Answers stand in a hash table: `get` and `put` do not go through the list, `after` does once.
 //!
 //! **What a caller may assume.** `get` is exact, and no query stands twice. `after` keeps the order and drops nothing else ([`stays_told`]); it takes
 //! no memory, nor do `new`, `get` and `count`. After `put` found no memory the list is as it was.

@@ -1,7 +1,7 @@
-use Rattle.std.proofs.Common.{◌∙◌, subst}
+use Rattle.std.proofs.Common.{◌∙◌}
 use Rattle.indexmap.proofs.CallerLemmas.{insert_entry-new}
 use Rattle.ms_cache.specs.Same.{same_query}
-use Rattle.ms_cache.specs.Stays.{query_of, NotKept}
+use Rattle.ms_cache.specs.Stays.{query_of}
 use Rattle.ms_cache.proofs.Keys.{once_told, not_found}
 use Rattle.ms_cache.proofs.cache.Cache.put.Goals as goal
 
