@@ -1,7 +1,7 @@
 -- The test by the tables holds of exactly the answers that stay.
 use Rattle.std.proofs.Common.{◌≡◌, ℕ, Bool, true, false, not, Option, Some, None, refl, sym, ap, ◌∙◌, true≢false}
 use Rattle.std.specs.Prelude.{◌↔◌, ◌&&◌, ◌||◌, IsTrue}
-use Rattle.std.specs.Cmp.{unsigned_Decides}
+use Rattle.std.specs.Cmp.{unsigned_Decides, first_so, second_so}
 use Rattle.ms_ir.specs.declared.names.InstNo.{InstNo}
 use Rattle.ms_ir.specs.Func.{FuncState}
 use Rattle.ms_alias.specs.declared.loc.Loc.{Loc}
@@ -54,10 +54,6 @@ module _ (f : FuncState) (a : AliasState) (told : IsAliasOf f a → (loc : Loc) 
       let flags = flags_told e.own_only e.captured e.unlinked e.def (may_write_in f a e.inst q.loc) h in
       (λ off m. (flags off).2 m.0 (writes_back (ready (m.0, off, (flags off).0, (flags off).1)) e.inst q.loc m.1 m.2 m.3), λ off. (flags off).0, λ off. (flags off).1)
 
-  both : (s t : Bool) → (s && t) ≡ true → (s ≡ true) × (t ≡ true)
-  both true t h = (refl, h)
-  both false t h = differ_back h
-
   joined : (s t : Bool) → s ≡ false → t ≡ true → (not s && t) ≡ true
   joined false t p h = h
   joined true t p h = differ p
@@ -73,10 +69,10 @@ module _ (f : FuncState) (a : AliasState) (told : IsAliasOf f a → (loc : Loc) 
   pub stays_tested : (q : Query) → IsTrue (stays_by f a e q) ↔ Stays f e q
   stays_tested q = (
     λ h.
-        let parts = both (not (is_own e.inst q.inst)) (is_spared f a e q.loc) h in
-        let spared = spared_told q parts.1 in
+        let other = first_so (not (is_own e.inst q.inst)) (is_spared f a e q.loc) h in
+        let spared = spared_told q (second_so (not (is_own e.inst q.inst)) (is_spared f a e q.loc) h) in
         record {
-          other = λ own. unset (is_own e.inst q.inst) parts.0 ((own_told e.inst q.inst).1 own);
+          other = λ own. unset (is_own e.inst q.inst) other ((own_told e.inst q.inst).1 own);
           unwritten = spared.0;
           captures = spared.1;
           edges = spared.2;

@@ -2,7 +2,7 @@
 use Rattle.std.specs.Prelude.{◌≡◌, ◌==◌, ◌&&◌, ◌++◌, Bool, true, false}
 use Rattle.std.specs.Ordering.{int_eq}
 use Rattle.std.specs.Bool.{Decides}
-use Rattle.std.specs.Cmp.{IsEquivalence, decided, unsigned_Decides, signed_Decides}
+use Rattle.std.specs.Cmp.{IsEquivalence, decided, unsigned_Decides, signed_Decides, first_so, second_so}
 use Rattle.std.specs.Hash as fed
 use Rattle.std.proofs.Common.{refl, ap, sym, true≢false}
 use Rattle.ms_alias.specs.declared.loc.Root.{Root}
@@ -32,10 +32,6 @@ loc_writes (ReadBy j) = fed.u32 j.0
 abbrev pub query_writes : Query → fed.HashWrites
 query_writes q = fed.u32 q.inst.0 ++ loc_writes q.loc
 
-both : (a b : Bool) → (a && b) ≡ true → (a ≡ true) × (b ≡ true)
-both true b e = (refl, e)
-both false b e = absurd (true≢false (sym e))
-
 joined : (a b : Bool) → a ≡ true → b ≡ true → (a && b) ≡ true
 joined true b p q = q
 joined false b p q = absurd (true≢false (sym p))
@@ -52,9 +48,10 @@ same_root-Decides (Global g) (Local l) = (differ, λ e. cc)
 same_loc-Decides : (a b : Loc) → Decides (same_loc a b) (a ≡ b)
 same_loc-Decides (Bytes r from len) (Bytes s at size) = (
   λ e.
-      let one = both (same_root r s && int_eq from at) (len == size) e in
-      let two = both (same_root r s) (int_eq from at) one.0 in
-      (λ i. Bytes ((same_root-Decides r s).0 two.0 i) ((signed_Decides from at).0 two.1 i) ((unsigned_Decides len size).0 one.1 i)),
+      let front = first_so (same_root r s && int_eq from at) (len == size) e in
+      (λ i. Bytes ((same_root-Decides r s).0 (first_so (same_root r s) (int_eq from at) front) i)
+      ((signed_Decides from at).0 (second_so (same_root r s) (int_eq from at) front) i)
+      ((unsigned_Decides len size).0 (second_so (same_root r s && int_eq from at) (len == size) e) i)),
   λ e.
       joined _ _ (joined _ _ ((same_root-Decides r s).1 (cc)) ((signed_Decides from at).1 (cc))) ((unsigned_Decides len size).1 (cc)),
 )
@@ -66,8 +63,9 @@ same_loc-Decides (ReadBy i) (Bytes s at size) = (differ, λ e. cc)
 pub same_query-Decides : (a b : Query) → Decides (same_query a b) (a ≡ b)
 same_query-Decides a b = (
   λ e.
-      let parts = both (a.inst.0 == b.inst.0) (same_loc a.loc b.loc) e in
-      (λ n. record { inst = record { 0 = (unsigned_Decides a.inst.0 b.inst.0).0 parts.0 n }; loc = (same_loc-Decides a.loc b.loc).0 parts.1 n }),
+      let inst = first_so (a.inst.0 == b.inst.0) (same_loc a.loc b.loc) e in
+      let loc = second_so (a.inst.0 == b.inst.0) (same_loc a.loc b.loc) e in
+      (λ n. record { inst = record { 0 = (unsigned_Decides a.inst.0 b.inst.0).0 inst n }; loc = (same_loc-Decides a.loc b.loc).0 loc n }),
   λ e.
       joined _ _ ((unsigned_Decides a.inst.0 b.inst.0).1 (ap (λ (q : Query). q.inst.0) e)) ((same_loc-Decides a.loc b.loc).1 (ap (λ (q : Query). q.loc) e)),
 )
