@@ -4,7 +4,7 @@ use Rattle.std.specs.Ordering.{int_eq}
 use Rattle.std.specs.Bool.{Decides}
 use Rattle.std.specs.Cmp.{IsEquivalence, decided, unsigned_Decides, signed_Decides, first_so, second_so}
 use Rattle.std.specs.Hash as fed
-use Rattle.std.proofs.Common.{refl, ap, sym, true≢false}
+use Rattle.std.proofs.Common.{ap, sym, true≢false}
 use Rattle.ms_alias.specs.declared.loc.Root.{Root}
 use Rattle.ms_alias.specs.declared.loc.Root.TheVariants.{Local, Global}
 use Rattle.ms_alias.specs.declared.loc.Loc.{Loc}
