@@ -35,8 +35,8 @@ pub struct Effect {
     pub writes: Writes,
 }
 
-// The range of a location, where it is bytes of the root.
-fn range_of(loc: Option<Loc>, root: Root) -> Option<Span>
+/// The range of a location, where it is bytes of the root.
+pub fn range_of(loc: Option<Loc>, root: Root) -> Option<Span>
     ensures { IsRangeOf result loc root }
 {
     match loc {
