@@ -23,6 +23,7 @@ use Rattle.ms_grammar.specs.declared.line.RawInst.TheVariants.{Alloca, Gep, Load
 use Rattle.ms_grammar.specs.declared.line.RawTerm.{RawTerm}
 use Rattle.ms_grammar.specs.declared.line.RawTerm.TheVariants.{Br, CondBr, Ret, Unreachable}
 use Rattle.ms_line.specs.Cause.{IsRead}
+use Rattle.ms_line.proofs.Again.{kept_within}
 use Rattle.ms_print.specs.Numbering.{shown_params}
 use Rattle.ms_resolve.specs.Made.{makes}
 use Rattle.ms_resolve.specs.Used.{values_of, term_values, inst_blocks, term_blocks, arg_value, entry_value, entry_block}
@@ -249,26 +250,9 @@ define_fine head h good =
       within = ((h.within.0.0, short_params (shown_params 0 head.params) good), tt);
     }
 
--- what is kept of a line is within the limits
-bare_short : (ps : List Param) → Shorts (flat_map names_of_param (map without_name ps))
-bare_short [] = tt
-bare_short (p ∷ ps) = (omega arith, bare_short ps)
-
-within_kept : (l : Line) → IsWithinLimits l → IsWithinLimits (kept_of l)
-within_kept (said.Declare head) h = ((h.0.0, bare_short head.params), tt)
-within_kept said.Empty h = h
-within_kept said.Close h = h
-within_kept (said.Kept text) h = h
-within_kept (said.Group n text) h = h
-within_kept (said.GlobalVar name text) h = h
-within_kept (said.Label n) h = h
-within_kept (said.Define head) h = h
-within_kept (said.Inst n inst) h = h
-within_kept (said.Term term) h = h
-
 pub read_fine : (row : List ℕ) (l : Line) → IsRead row l → IsFine l
 read_fine row l h =
-    let fine : IsFine (kept_of h.written) = record { whole = kept_printed row h.written h.says; within = within_kept h.written h.within } in
+    let fine : IsFine (kept_of h.written) = record { whole = kept_printed row h.written h.says; within = kept_within h.written h.within } in
     subst (λ x. IsFine x) (sym h.kept) fine
 
 -- a line that is kept whole

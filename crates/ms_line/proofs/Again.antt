@@ -30,7 +30,8 @@ no_names : (ps : List Param) → Each IsShort (flat_map names_of_param (map with
 no_names [] = tt
 no_names (p ∷ ps) = (omega arith, no_names ps)
 
-kept_within : (w : Line) → IsWithinLimits w → IsWithinLimits (kept_of w)
+-- what is kept of a line is within the limits
+pub kept_within : (w : Line) → IsWithinLimits w → IsWithinLimits (kept_of w)
 kept_within (line.Declare head) h = ((h.0.0, no_names head.params), tt)
 kept_within line.Empty h = h
 kept_within line.Close h = h

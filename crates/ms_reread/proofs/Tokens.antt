@@ -279,7 +279,8 @@ truth_again zero h = record { whole = word_whole word.False; means = no refl ref
 truth_again (suc zero) h = record { whole = word_whole word.True; means = yes refl refl refl }
 truth_again (suc (suc n)) h = absurd (omega arith)
 
-means_below : (ty : Ty) (n : ℕ) (s : List ℕ) → Means ty n s → n < 2 ^ bits ty
+-- what a number of a type means is below 2 to the number of its bits
+pub means_below : (ty : Ty) (n : ℕ) (s : List ℕ) → Means ty n s → n < 2 ^ bits ty
 means_below ty n s (numeral is value) = modulo_below (bits ty) s n (by_type ty) value
   where
     by_type : (ty : Ty) → 0 < 2 ^ bits ty
