@@ -8,7 +8,7 @@ use Rattle.ms_ir.specs.declared.names.LocalNo.{LocalNo}
 use Rattle.ms_ir.specs.declared.inst.Val.{Val}
 use Rattle.ms_ir.specs.declared.inst.Arg.{Arg}
 use Rattle.ms_ir.specs.declared.inst.Inst.{Inst}
-use Rattle.ms_ir.specs.declared.inst.Inst.TheVariants.{Alloca, Gep, Load, Store, Copy, Call, Bin, Cmp, Select, Cast, Phi}
+use Rattle.ms_ir.specs.declared.inst.Inst.TheVariants.{Alloca, Gep, Step, Load, Store, Copy, Call, Bin, Cmp, Select, Cast, Phi}
 use Rattle.ms_ir.specs.declared.names.BlockNo.{BlockNo}
 use Rattle.ms_ir.specs.declared.inst.Term.{Term}
 use Rattle.ms_ir.specs.declared.inst.Term.TheVariants.{Br}
@@ -74,6 +74,7 @@ blocks-replaced l by nodes (d ∷ parts) (xs ∷ lists) =
 result-with : (l : LocalNo) (by : Val) (inst : Inst) → has_result (inst_with l by inst) ≡ has_result inst
 result-with l by (Alloca size head tail) = refl
 result-with l by (Gep base offset head index tail) = refl
+result-with l by (Step base offset terms head index tail) = refl
 result-with l by (Load ty ptr tail) = refl
 result-with l by (Store ty val ptr tail) = refl
 result-with l by (Copy to from len head tail) = refl
@@ -95,6 +96,7 @@ given-replaced l by nodes results params g =
 result-sourced : (arg : Arg) (inst : Inst) → has_result (inst_sourced arg inst) ≡ has_result inst
 result-sourced arg (Alloca size head tail) = refl
 result-sourced arg (Gep base offset head index tail) = refl
+result-sourced arg (Step base offset terms head index tail) = refl
 result-sourced arg (Load ty ptr tail) = refl
 result-sourced arg (Store ty val ptr tail) = refl
 result-sourced arg (Copy to from len head tail) = refl
@@ -184,6 +186,7 @@ listed_or_not n (x ∷ xs) = elim (eqb_tells x n) [
 result-without : (from : ℕ) (inst : Inst) → has_result (inst_without from inst) ≡ has_result inst
 result-without from (Alloca size head tail) = refl
 result-without from (Gep base offset head index tail) = refl
+result-without from (Step base offset terms head index tail) = refl
 result-without from (Load ty ptr tail) = refl
 result-without from (Store ty val ptr tail) = refl
 result-without from (Copy to src len head tail) = refl

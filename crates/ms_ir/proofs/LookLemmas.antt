@@ -7,7 +7,7 @@ use Rattle.ms_ir.specs.declared.names.Name.{Name}
 use Rattle.ms_ir.specs.declared.names.Ty.{Ty}
 use Rattle.ms_ir.specs.declared.names.LocalNo.{LocalNo}
 use Rattle.ms_ir.specs.declared.inst.Inst.{Inst}
-use Rattle.ms_ir.specs.declared.inst.Inst.TheVariants.{Alloca, Gep, Load, Store, Copy, Call, Bin, Cmp, Select, Cast, Phi}
+use Rattle.ms_ir.specs.declared.inst.Inst.TheVariants.{Alloca, Gep, Step, Load, Store, Copy, Call, Bin, Cmp, Select, Cast, Phi}
 use Rattle.ms_ir.specs.Inst.{has_result, result_type}
 use Rattle.ms_ir.specs.Func.{Placed, Block, FuncState, IsAt}
 use Rattle.ms_ir.specs.Locals.{IsGiver, IsNoLocal, HasType, HasName, IsBlockNamed, IsNumbered}
@@ -37,6 +37,7 @@ one_type f l ty t inst le is each (inr g) =
 pub typed : (inst : Inst) → result_type inst ≡ None → has_result inst ≡ false
 typed (Alloca size head tail) e = cc
 typed (Gep base offset head index tail) e = cc
+typed (Step base offset terms head index tail) e = cc
 typed (Load ty ptr tail) e = cc
 typed (Store ty val ptr tail) e = refl
 typed (Copy to from len head tail) e = refl

@@ -6,8 +6,9 @@ use Rattle.ms_ir.specs.declared.inst.Val.{Val}
 use Rattle.ms_ir.specs.declared.inst.Val.TheVariants.{Num, Local, Global}
 use Rattle.ms_ir.specs.declared.inst.Arg.{Arg}
 use Rattle.ms_ir.specs.declared.inst.Entry.{Entry}
+use Rattle.ms_ir.specs.declared.inst.IndexTerm.{IndexTerm}
 use Rattle.ms_ir.specs.declared.inst.Inst.{Inst}
-use Rattle.ms_ir.specs.declared.inst.Inst.TheVariants.{Alloca, Gep, Load, Store, Copy, Call, Bin, Cmp, Select, Cast, Phi}
+use Rattle.ms_ir.specs.declared.inst.Inst.TheVariants.{Alloca, Gep, Step, Load, Store, Copy, Call, Bin, Cmp, Select, Cast, Phi}
 use Rattle.ms_ir.specs.declared.inst.Term.{Term}
 use Rattle.ms_ir.specs.declared.inst.Term.TheVariants.{Br, CondBr, Ret, Unreachable}
 use Rattle.ms_ir.specs.declared.func.Node.{Node}
@@ -23,12 +24,16 @@ val_with l by (Global g) = Global g
 abbrev pub arg_with : LocalNo → Val → Arg → Arg
 arg_with l by a = record a { val = val_with l by a.val }
 
+abbrev pub index_with : LocalNo → Val → IndexTerm → IndexTerm
+index_with l by t = record t { val = val_with l by t.val }
+
 abbrev pub entry_with : LocalNo → Val → Entry → Entry
 entry_with l by e = record e { val = val_with l by e.val }
 
 abbrev pub inst_with : LocalNo → Val → Inst → Inst
 inst_with l by (Alloca size head tail) = Alloca size head tail
 inst_with l by (Gep base offset head index tail) = Gep (val_with l by base) offset head index tail
+inst_with l by (Step base offset terms head index tail) = Step (val_with l by base) offset (map (index_with l by) terms) head index tail
 inst_with l by (Load ty ptr tail) = Load ty (val_with l by ptr) tail
 inst_with l by (Store ty val ptr tail) = Store ty (val_with l by val) (val_with l by ptr) tail
 inst_with l by (Copy to from len head tail) = Copy (arg_with l by to) (arg_with l by from) len head tail

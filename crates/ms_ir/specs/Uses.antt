@@ -6,8 +6,9 @@ use Rattle.ms_ir.specs.declared.names.Ty.TheVariants.{I1, Ptr}
 use Rattle.ms_ir.specs.declared.inst.Val.{Val}
 use Rattle.ms_ir.specs.declared.inst.Arg.{Arg}
 use Rattle.ms_ir.specs.declared.inst.Entry.{Entry}
+use Rattle.ms_ir.specs.declared.inst.IndexTerm.{IndexTerm}
 use Rattle.ms_ir.specs.declared.inst.Inst.{Inst}
-use Rattle.ms_ir.specs.declared.inst.Inst.TheVariants.{Alloca, Gep, Load, Store, Copy, Call, Bin, Cmp, Select, Cast, Phi}
+use Rattle.ms_ir.specs.declared.inst.Inst.TheVariants.{Alloca, Gep, Step, Load, Store, Copy, Call, Bin, Cmp, Select, Cast, Phi}
 use Rattle.ms_ir.specs.declared.inst.Term.{Term}
 use Rattle.ms_ir.specs.declared.inst.Term.TheVariants.{Br, CondBr, Ret, Unreachable}
 use Rattle.ms_ir.specs.Func.{Block, Placed, insts_at}
@@ -23,6 +24,9 @@ of_type ty val = record { ty = ty; val = val }
 abbrev pub arg_operand : Arg → Operand
 arg_operand a = of_type a.ty a.val
 
+abbrev pub index_operand : IndexTerm → Operand
+index_operand t = of_type t.ty t.val
+
 abbrev pub entry_operand : Ty → Entry → Operand
 entry_operand ty e = of_type ty e.val
 
@@ -30,6 +34,7 @@ entry_operand ty e = of_type ty e.val
 abbrev pub operands_of : Inst → List Operand
 operands_of (Alloca size head tail) = []
 operands_of (Gep base offset head index tail) = of_type Ptr base ∷ []
+operands_of (Step base offset terms head index tail) = of_type Ptr base ∷ map index_operand terms
 operands_of (Load ty ptr tail) = of_type Ptr ptr ∷ []
 operands_of (Store ty val ptr tail) = of_type ty val ∷ of_type Ptr ptr ∷ []
 operands_of (Copy to from len head tail) = arg_operand to ∷ arg_operand from ∷ []

@@ -27,6 +27,7 @@ pub fn replace_in_inst(inst: &mut Inst, l: LocalNo, by: Val)
     match inst {
         Inst::Alloca { .. } => {}
         Inst::Gep { base, .. } => replace(base, l, by),
+        Inst::Step { base, .. } => replace(base, l, by),
         Inst::Load { ptr, .. } => replace(ptr, l, by),
         Inst::Store { val, ptr, .. } => {
             replace(val, l, by);
@@ -52,6 +53,10 @@ pub fn replace_in_inst(inst: &mut Inst, l: LocalNo, by: Val)
         }
         Inst::Cast { a, .. } => replace(a, l, by),
         Inst::Phi { entries, .. } => entries.replace(l, by),
+    }
+    // in a match of its own, since the base is borrowed above
+    if let Inst::Step { terms, .. } = inst {
+        terms.replace(l, by);
     }
 }
 
