@@ -6,7 +6,7 @@ use Rattle.ms_ir.specs.declared.names.Param.{Param}
 use Rattle.ms_ir.specs.declared.inst.Val.{Val}
 use Rattle.ms_ir.specs.declared.inst.Entry.{Entry}
 use Rattle.ms_ir.specs.declared.inst.Inst.{Inst}
-use Rattle.ms_ir.specs.declared.inst.Inst.TheVariants.{Gep, Select, Phi}
+use Rattle.ms_ir.specs.declared.inst.Inst.TheVariants.{Alloca as AllocaInst, Gep, Step as StepInst, Load, Store, Copy, Call, Bin, Cmp, Select, Cast, Phi}
 use Rattle.ms_ir.specs.Func.{FuncState}
 use Rattle.ms_alias.specs.declared.loc.Root.{Root}
 use Rattle.ms_alias.specs.declared.loc.Root.TheVariants.{Local, Global}
@@ -33,9 +33,17 @@ pointers_in (v ∷ vs) = with_pointer (pointer_of v) (pointers_in vs)
 -- the values one of which the pointer is, or is made of
 abbrev pub sources_in : Inst → List Val
 sources_in (Gep base offset head index tail) = base ∷ []
+sources_in (StepInst base offset terms head index tail) = base ∷ []
 sources_in (Select cond ty a b tail) = a ∷ b ∷ []
 sources_in (Phi ty entries tail) = map (λ (e : Entry). e.val) entries
-sources_in _ = []
+sources_in (AllocaInst size head tail) = []
+sources_in (Load ty ptr tail) = []
+sources_in (Store ty val ptr tail) = []
+sources_in (Copy to from len head tail) = []
+sources_in (Call callee ret args effects head tail) = []
+sources_in (Bin op flags ty a b tail) = []
+sources_in (Cmp pred flags ty a b tail) = []
+sources_in (Cast op flags from a to tail) = []
 
 abbrev pub leads_in : Option Maker → List Root
 leads_in None = []

@@ -51,6 +51,20 @@ Meet f u v = (HaveOneRoot f u v × ShareByte u v) ⊎ ((HaveOneRoot f u v → �
 abbrev pub MayWrite : FuncState → ℕ → Loc → Type 0
 MayWrite f i loc = (b : ℕ) × (place : ℕ) × (x : Placed) × IsAt f.blocks i b place x × (u : Reach) × (v : Reach) × IsWritten f x.inst u × IsReachOf f loc v × Meet f u v
 
+-- byte locations with one root, fixed or turning
+abbrev pub AreOneRoot : Reach → Reach → Type 0
+AreOneRoot (Span r from len) (Span s at size) = r ≡ s
+AreOneRoot (Span r from len) (Called args other hidden) = ⊥
+AreOneRoot (Called args other hidden) v = ⊥
+
+-- While a root stays what it is, byte locations with it meet where they share a byte. All others meet as ever.
+abbrev pub MeetInTurn : FuncState → Reach → Reach → Type 0
+MeetInTurn f u v = (AreOneRoot u v × ShareByte u v) ⊎ ((AreOneRoot u v → ⊥) × Meet f u v)
+
+-- what instruction i writes meets the location, as long as the location's root is not made anew
+abbrev pub MayWriteInTurn : FuncState → ℕ → Loc → Type 0
+MayWriteInTurn f i loc = (b : ℕ) × (place : ℕ) × (x : Placed) × IsAt f.blocks i b place x × (u : Reach) × (v : Reach) × IsWritten f x.inst u × IsReachOf f loc v × MeetInTurn f u v
+
 -- what instruction i reads meets the location
 abbrev pub MayRead : FuncState → ℕ → Loc → Type 0
 MayRead f i loc = (b : ℕ) × (place : ℕ) × (x : Placed) × IsAt f.blocks i b place x × (u : Reach) × (v : Reach) × IsRead f x.inst u × IsReachOf f loc v × Meet f u v

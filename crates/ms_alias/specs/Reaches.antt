@@ -4,7 +4,7 @@ use Rattle.ms_ir.specs.declared.names.InstNo.{InstNo}
 use Rattle.ms_ir.specs.declared.inst.Val.{Val}
 use Rattle.ms_ir.specs.declared.inst.Arg.{Arg}
 use Rattle.ms_ir.specs.declared.inst.Inst.{Inst}
-use Rattle.ms_ir.specs.declared.inst.Inst.TheVariants.{Load, Store, Copy, Call}
+use Rattle.ms_ir.specs.declared.inst.Inst.TheVariants.{Alloca as AllocaInst, Gep, Step as StepInst, Load, Store, Copy, Call, Bin, Cmp, Select, Cast, Phi}
 use Rattle.ms_ir.specs.Func.{Placed, FuncState, IsAt}
 use Rattle.ms_meaning.specs.Values.{size_of}
 use Rattle.ms_alias.specs.declared.loc.Root.{Root}
@@ -29,14 +29,30 @@ abbrev pub IsRead : FuncState → Inst → Reach → Type 0
 IsRead f (Load ty ptr tail) u = IsSpan f ptr (size_of ty) u
 IsRead f (Copy to from len head tail) u = IsSpan f from.val len u
 IsRead f (Call callee ret args effects head tail) u = u ≡ Called (if effects.arg_read then args else []) effects.other_read effects.hidden_read
-IsRead f _ u = ⊥
+IsRead f (AllocaInst size head tail) u = ⊥
+IsRead f (Gep base offset head index tail) u = ⊥
+IsRead f (StepInst base offset terms head index tail) u = ⊥
+IsRead f (Store ty val ptr tail) u = ⊥
+IsRead f (Bin op flags ty a b tail) u = ⊥
+IsRead f (Cmp pred flags ty a b tail) u = ⊥
+IsRead f (Select cond ty a b tail) u = ⊥
+IsRead f (Cast op flags from a to tail) u = ⊥
+IsRead f (Phi ty entries tail) u = ⊥
 
 -- the instruction writes this
 abbrev pub IsWritten : FuncState → Inst → Reach → Type 0
 IsWritten f (Store ty val ptr tail) u = IsSpan f ptr (size_of ty) u
 IsWritten f (Copy to from len head tail) u = IsSpan f to.val len u
 IsWritten f (Call callee ret args effects head tail) u = u ≡ Called (if effects.arg_write then args else []) effects.other_write effects.hidden_write
-IsWritten f _ u = ⊥
+IsWritten f (AllocaInst size head tail) u = ⊥
+IsWritten f (Gep base offset head index tail) u = ⊥
+IsWritten f (StepInst base offset terms head index tail) u = ⊥
+IsWritten f (Load ty ptr tail) u = ⊥
+IsWritten f (Bin op flags ty a b tail) u = ⊥
+IsWritten f (Cmp pred flags ty a b tail) u = ⊥
+IsWritten f (Select cond ty a b tail) u = ⊥
+IsWritten f (Cast op flags from a to tail) u = ⊥
+IsWritten f (Phi ty entries tail) u = ⊥
 
 -- a location is its bytes, or what the instruction reads
 abbrev pub IsReachOf : FuncState → Loc → Reach → Type 0
@@ -61,13 +77,30 @@ abbrev pub IsLocRead : FuncState → InstNo → Inst → Loc → Type 0
 IsLocRead f i (Load ty ptr tail) loc = (p : Root) × (pointer_of ptr ≡ Some p) × (r : Root) × (from : ℤ) × HasRoot f p r from × (loc ≡ Bytes r from (size_of ty))
 IsLocRead f i (Copy to from len head tail) loc = (p : Root) × (pointer_of from.val ≡ Some p) × (r : Root) × (at : ℤ) × HasRoot f p r at × (loc ≡ Bytes r at len)
 IsLocRead f i (Call callee ret args effects head tail) loc = ((effects.arg_read || effects.other_read || effects.hidden_read) ≡ true) × (loc ≡ ReadBy i)
-IsLocRead f i _ loc = ⊥
+IsLocRead f i (AllocaInst size head tail) loc = ⊥
+IsLocRead f i (Gep base offset head index tail) loc = ⊥
+IsLocRead f i (StepInst base offset terms head index tail) loc = ⊥
+IsLocRead f i (Store ty val ptr tail) loc = ⊥
+IsLocRead f i (Bin op flags ty a b tail) loc = ⊥
+IsLocRead f i (Cmp pred flags ty a b tail) loc = ⊥
+IsLocRead f i (Select cond ty a b tail) loc = ⊥
+IsLocRead f i (Cast op flags from a to tail) loc = ⊥
+IsLocRead f i (Phi ty entries tail) loc = ⊥
 
 -- the bytes that a store or memcpy writes
 abbrev pub IsLocWritten : FuncState → Inst → Loc → Type 0
 IsLocWritten f (Store ty val ptr tail) loc = (p : Root) × (pointer_of ptr ≡ Some p) × (r : Root) × (from : ℤ) × HasRoot f p r from × (loc ≡ Bytes r from (size_of ty))
 IsLocWritten f (Copy to from len head tail) loc = (p : Root) × (pointer_of to.val ≡ Some p) × (r : Root) × (at : ℤ) × HasRoot f p r at × (loc ≡ Bytes r at len)
-IsLocWritten f _ loc = ⊥
+IsLocWritten f (AllocaInst size head tail) loc = ⊥
+IsLocWritten f (Gep base offset head index tail) loc = ⊥
+IsLocWritten f (StepInst base offset terms head index tail) loc = ⊥
+IsLocWritten f (Load ty ptr tail) loc = ⊥
+IsLocWritten f (Call callee ret args effects head tail) loc = ⊥
+IsLocWritten f (Bin op flags ty a b tail) loc = ⊥
+IsLocWritten f (Cmp pred flags ty a b tail) loc = ⊥
+IsLocWritten f (Select cond ty a b tail) loc = ⊥
+IsLocWritten f (Cast op flags from a to tail) loc = ⊥
+IsLocWritten f (Phi ty entries tail) loc = ⊥
 
 -- the instruction of number i reads, or writes, this location
 abbrev pub ReadsLoc : FuncState → InstNo → Loc → Type 0

@@ -4,21 +4,28 @@ use Rattle.ms_ir.specs.declared.names.LocalNo.{LocalNo}
 use Rattle.ms_ir.specs.declared.inst.Val.{Val}
 use Rattle.ms_ir.specs.declared.inst.Val.TheVariants.{Num, Local as LocalVal, Global as GlobalVal}
 use Rattle.ms_ir.specs.declared.inst.Inst.{Inst}
-use Rattle.ms_ir.specs.declared.inst.Inst.TheVariants.{Alloca, Gep, Select, Phi}
-use Rattle.ms_ir.specs.Func.{Placed, Block, FuncState}
+use Rattle.ms_ir.specs.declared.inst.Inst.TheVariants.{Alloca, Gep, Step as StepInst, Load, Store, Copy, Call, Bin, Cmp, Select, Cast, Phi}
+use Rattle.ms_ir.specs.Func.{Placed, Block, FuncState, IsAt}
 pub use Rattle.ms_ir.specs.Types.{is_pointer, is_alloca}
 use Rattle.ms_flow.specs.Table.{edges_of}
 use Rattle.ms_flow.specs.Flow.{IsOnCycle}
 use Rattle.ms_alias.specs.declared.loc.Root.{Root}
 use Rattle.ms_alias.specs.declared.loc.Root.TheVariants.{Local, Global}
 
--- an alloca, a getelementptr, or a select or phi of pointers
+-- an alloca, a getelementptr with or without terms, or a select or phi of pointers
 abbrev pub makes_pointer : Inst → Bool
 makes_pointer (Alloca size head tail) = true
 makes_pointer (Gep base offset head index tail) = true
+makes_pointer (StepInst base offset terms head index tail) = true
 makes_pointer (Select cond ty a b tail) = is_pointer ty
 makes_pointer (Phi ty entries tail) = is_pointer ty
-makes_pointer _ = false
+makes_pointer (Load ty ptr tail) = false
+makes_pointer (Store ty val ptr tail) = false
+makes_pointer (Copy to from len head tail) = false
+makes_pointer (Call callee ret args effects head tail) = false
+makes_pointer (Bin op flags ty a b tail) = false
+makes_pointer (Cmp pred flags ty a b tail) = false
+makes_pointer (Cast op flags from a to tail) = false
 
 abbrev pub is_local : LocalNo → Option LocalNo → Bool
 is_local l None = false
@@ -57,7 +64,7 @@ pointer_of (Num ty n) = None
 pointer_of (LocalVal l) = Some (Local l)
 pointer_of (GlobalVal g) = Some (Global g)
 
--- a pointer, and so many bytes to be added
+-- a pointer, and so many bytes to be added: what a getelementptr whose indices are numbers does; one with terms makes a root
 pub record Step : Type 0 where
   pub base : Root
   pub bytes : ℤ
@@ -68,7 +75,17 @@ step_by bytes (Some p) = Some (record { base = p; bytes = bytes })
 
 abbrev pub step_in : Inst → Option Step
 step_in (Gep base offset head index tail) = step_by offset (pointer_of base)
-step_in _ = None
+step_in (Alloca size head tail) = None
+step_in (StepInst base offset terms head index tail) = None
+step_in (Load ty ptr tail) = None
+step_in (Store ty val ptr tail) = None
+step_in (Copy to from len head tail) = None
+step_in (Call callee ret args effects head tail) = None
+step_in (Bin op flags ty a b tail) = None
+step_in (Cmp pred flags ty a b tail) = None
+step_in (Select cond ty a b tail) = None
+step_in (Cast op flags from a to tail) = None
+step_in (Phi ty entries tail) = None
 
 abbrev pub step_by_maker : Option Maker → Option Step
 step_by_maker None = None
@@ -105,6 +122,11 @@ HasRoot f p r offset = (n : ℕ) × IsRootAfter f n p r offset
 abbrev pub IsTurning : FuncState → Root → Type 0
 IsTurning f (Local l) = (m : Maker) × (maker_of f l ≡ Some m) × (is_alloca m.inst ≡ false) × IsOnCycle (edges_of f.blocks) m.block
 IsTurning f (Global g) = ⊥
+
+-- the instruction of this number makes the root, which is turning
+abbrev pub IsTurnedBy : FuncState → Root → ℕ → Type 0
+IsTurnedBy f (Local l) q = IsTurning f (Local l) × (b : ℕ) × (place : ℕ) × (x : Placed) × IsAt f.blocks q b place x × (makes l x ≡ true)
+IsTurnedBy f (Global g) q = ⊥
 
 -- every other root is fixed: arguments, globals, allocas, and what is made on no cycle
 abbrev pub IsFixed : FuncState → Root → Type 0

@@ -4,7 +4,7 @@ use Rattle.ms_paths.specs.Flow.{Event, Of, Phi as LastPhi, Entry}
 use Rattle.ms_ir.specs.declared.names.Ty.TheVariants.{Ptr}
 use Rattle.ms_ir.specs.declared.inst.Val.{Val}
 use Rattle.ms_ir.specs.declared.inst.Inst.{Inst}
-use Rattle.ms_ir.specs.declared.inst.Inst.TheVariants.{Alloca, Gep, Load, Store, Copy, Call, Bin, Cmp, Select, Cast, Phi}
+use Rattle.ms_ir.specs.declared.inst.Inst.TheVariants.{Alloca, Gep, Step, Load, Store, Copy, Call, Bin, Cmp, Select, Cast, Phi}
 use Rattle.ms_ir.specs.Func.{Placed, FuncState, insts_at}
 use Rattle.ms_meaning.specs.Values.{Value, Pointer, size_of}
 use Rattle.ms_meaning.specs.Memory.{Written, HoldsByte, object_at}
@@ -81,6 +81,7 @@ ReadsByte s (Call callee ret args effects head tail) o k =
     (values : List Value) × (values_of s.locals args ≡ Some values) × (may_read_object s effects args values o ≡ true) × HoldsByte (pos 0) (length (object_at s.objects o)) k
 ReadsByte s (Alloca size head tail) o k = ⊥
 ReadsByte s (Gep base offset head index tail) o k = ⊥
+ReadsByte s (Step base offset terms head index tail) o k = ⊥
 ReadsByte s (Store ty val ptr tail) o k = ⊥
 ReadsByte s (Bin op flags ty a b tail) o k = ⊥
 ReadsByte s (Cmp pred flags ty a b tail) o k = ⊥
