@@ -1,21 +1,65 @@
 -- Clobbers: for a place and a location, the last instruction on every path that may write the location, with phis where those need one.
 -- What is called so is LLVM's MemorySSA document's clobbering access.
-use Rattle.std.specs.Prelude.{◌↔◌, ℕ, Bool, IsTrue}
-use Rattle.ms_paths.specs.Flow.{Event, IsReached, IsAnswer}
+use Rattle.std.specs.Prelude.{◌≡◌, ◌≢◌, ◌⊎◌, ◌↔◌, ℕ, ℤ, Bool, IsTrue}
+use Rattle.ms_paths.specs.Flow.{Event, Of, IsReached, IsAnswer, LiesOnEvery, and_one}
 use Rattle.ms_ir.specs.Func.{Placed, FuncState, IsAt}
 use Rattle.ms_ir.specs.Graph.{graph_of}
+use Rattle.ms_alias.specs.declared.loc.Root.{Root}
 use Rattle.ms_alias.specs.declared.loc.Loc.{Loc}
-use Rattle.ms_alias.specs.Meeting.{MayWrite}
+use Rattle.ms_alias.specs.Roots.{IsTurnedBy}
+use Rattle.ms_alias.specs.Reaches.{Span, IsReachOf}
+use Rattle.ms_alias.specs.Meeting.{MayWrite, MayWriteInTurn}
 
 -- the test holds of exactly the instructions that may write the location
 abbrev pub AreWriters : FuncState → Loc → (ℕ → Bool) → Type 0
 AreWriters f loc E = (j : ℕ) → IsTrue (E j) ↔ MayWrite f j loc
 
--- before the instruction at place k of block b, e is the last that may write the location
-pub record IsClobberAt (f : FuncState) (b k : ℕ) (loc : Loc) (e : Event) : Type 0 where
+-- the same as long as the location's root is not made anew
+abbrev pub AreWritersInTurn : FuncState → Loc → (ℕ → Bool) → Type 0
+AreWritersInTurn f loc E = (j : ℕ) → IsTrue (E j) ↔ MayWriteInTurn f j loc
+
+-- before place k of block b, e is the last instruction that may write the location
+pub record IsLastWriter (f : FuncState) (b k : ℕ) (loc : Loc) (e : Event) : Type 0 where
   pub writes : ℕ → Bool
   pub writers : AreWriters f loc writes
   pub answer : IsAnswer (graph_of f.blocks) writes b k e
+
+-- the location's root is made anew at each turn of a loop, by instruction q, which every path to place k of block b passes
+pub record IsTurnedAt (f : FuncState) (b k : ℕ) (loc : Loc) (q : ℕ) : Type 0 where
+  pub root : Root
+  pub from : ℤ
+  pub len : ℕ
+  pub reach : IsReachOf f loc (Span root from len)
+  pub turned : IsTurnedBy f root q
+  pub passed : LiesOnEvery (graph_of f.blocks) q b k
+
+-- before place k of block b, e is the last of q and the instructions that may write the location in q's turn
+pub record IsLastInTurn (f : FuncState) (q b k : ℕ) (loc : Loc) (e : Event) : Type 0 where
+  pub writes : ℕ → Bool
+  pub writers : AreWritersInTurn f loc writes
+  pub answer : IsAnswer (graph_of f.blocks) (and_one q writes) b k e
+
+-- before instruction q, e is the last instruction that may write the location
+pub record IsLastBeforeTurn (f : FuncState) (q : ℕ) (loc : Loc) (e : Event) : Type 0 where
+  pub block : ℕ
+  pub place : ℕ
+  pub inst : Placed
+  pub at : IsAt f.blocks q block place inst
+  pub last : IsLastWriter f block place loc e
+
+-- nothing turns the location's root
+abbrev pub IsClobberAnywhere : FuncState → ℕ → ℕ → Loc → Event → Type 0
+IsClobberAnywhere f b k loc e = ((q : ℕ) → IsTurnedAt f b k loc q → ⊥) × IsLastWriter f b k loc e
+
+-- instruction q does: while the root stays, what has another range of the same root does not write the location; where nothing writes it since q,
+-- it is what may write the location before q
+abbrev pub IsClobberInTurn : FuncState → ℕ → ℕ → Loc → Event → Type 0
+IsClobberInTurn f b k loc e = (q : ℕ) × IsTurnedAt f b k loc q
+    × ((IsLastInTurn f q b k loc e × (e ≢ Of q)) ⊎ (IsLastInTurn f q b k loc (Of q) × IsLastBeforeTurn f q loc e))
+
+-- the clobber of the location before place k of block b
+abbrev pub IsClobberAt : FuncState → ℕ → ℕ → Loc → Event → Type 0
+IsClobberAt f b k loc e = IsClobberAnywhere f b k loc e ⊎ IsClobberInTurn f b k loc e
 
 -- the same before instruction i, which stands in a reached block
 pub record IsClobber (f : FuncState) (i : ℕ) (loc : Loc) (e : Event) : Type 0 where
