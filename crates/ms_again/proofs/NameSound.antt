@@ -16,9 +16,10 @@ use Rattle.ms_grammar.specs.declared.line.RawTerm.TheVariants.{Br, CondBr, Ret, 
 use Rattle.ms_resolve.specs.Shape.{InstLine, BlockLines, FuncLines, ItemLines, plain, body}
 use Rattle.ms_resolve.specs.Made.{made_in, named_in, blocks_of, name_of_made}
 use Rattle.ms_resolve.specs.Used.{Names, values_of, term_values, inst_blocks, term_blocks, callee_of, local_of, global_of, arg_value, entry_value, entry_block, inst_names, term_names}
-use Rattle.ms_resolve.specs.Faults.{IsIn, IsNotIn, Symbol, symbols_of, name_of_symbol, IsSymbolAgain, IsMadeAgain, StandsAt, UsesUnknown, HasFaultIn, HasNameFault}
+use Rattle.ms_resolve.specs.Faults.{IsIn, IsNotIn, NamesFirst, Symbol, symbols_of, name_of_symbol, IsSymbolAgain, IsMadeAgain, StandsAt, UsesUnknown, HasFaultIn, HasNameFault}
 use Rattle.ms_resolve.specs.Faults as named
 use Rattle.ms_resolve.specs.Cause.{NoNameFault}
+use Rattle.ms_resolve.proofs.FirstFacts.{local_first, block_first}
 use Rattle.ms_resolve.proofs.Members.{among_in}
 use Rattle.ms_valid.proofs.ListLemmas.{in_nil, in_one, in_flat, get_map, map_get}
 use Rattle.ms_again.proofs.Renaming.{Renaming, renamed_val, renamed_arg, renamed_entry, renamed_inst, renamed_term}
@@ -206,39 +207,7 @@ block_there f froms name h on =
     let right = at_each (IsRightBlock f) froms on.0 from.0 h from.1 in
     subst (λ m. IsIn (blocks_listed shown f) m) from.2 (among_in (blocks_listed shown f) _ right.there)
 
-use_known : (f : FuncLines) (known : List (List ℕ)) (vals : List RawVal) (froms : List Name) (symbols : List (List ℕ)) → IsRightUse f vals froms → ((w : List ℕ) → IsIn symbols w → IsIn known w) →
-    UsesUnknown (locals_listed shown f) (blocks_listed shown f) known (names_as (renaming f) vals froms symbols) → ⊥
-use_known f known vals froms symbols right there (named.UsesUnknown.local name on none) = none (local_there f vals name right.vals on)
-use_known f known vals froms symbols right there (named.UsesUnknown.block name on none) = none (block_there f froms name right.froms on)
-use_known f known vals froms symbols right there (named.UsesUnknown.global name on none) = none (there name on)
-
--- a line of a printed function
-line_known : (items : List ItemLines) (row : ℕ) (f : FuncLines) → NoNameFault items → IsIn items (body f) → IsFineNamed f → (n : ℕ) (used : Names) → StandsAt (func_again row f) n used →
-    UsesUnknown (locals_listed shown f) (blocks_listed shown f) (known_symbols items) used → ⊥
-line_known items row f sound il fine n used (named.StandsAt.inst b x ib ii on is) unknown =
-    let r = renaming f in
-    let block = block_from r true (row + 1) (start f) f.blocks ib.0 b ib.1 in
-    let here : slice_get (block_again r block.first block.row block.next block.block).insts ii.0 ≡ Some x = subst (λ (y : BlockLines). slice_get y.insts ii.0 ≡ Some x) block.is ii.1 in
-    let line = inst_from r (block.row + length (label_said block.first block.next (label_name block.block.label))) _ block.block.insts ii.0 x here in
-    let uses : used ≡ names_as r (values_of line.line.inst) (inst_blocks line.line.inst) (inst_names line.line.inst).symbols = is ∙ ap inst_names line.is ∙ inst_used r line.line.inst in
-    let lines = at_each (IsRightLines f) f.blocks ib.0 block.block fine.uses block.there in
-    let right = at_each (IsRightInst f) block.block.insts ii.0 line.line lines.insts line.there in
-    let stands : StandsAt f line.line.line (inst_names line.line.inst) = named.StandsAt.inst block.block line.line (ib.0, block.there) (ii.0, line.there) refl refl in
-    use_known f (known_symbols items) (values_of line.line.inst) (inst_blocks line.line.inst) (inst_names line.line.inst).symbols right
-    (λ w there. symbol_in items f line.line.line (inst_names line.line.inst) sound il stands w there)
-    (subst (λ (u : Names). UsesUnknown (locals_listed shown f) (blocks_listed shown f) (known_symbols items) u) uses unknown)
-line_known items row f sound il fine n used (named.StandsAt.term b ib on is) unknown =
-    let r = renaming f in
-    let block = block_from r true (row + 1) (start f) f.blocks ib.0 b ib.1 in
-    let uses : used ≡ names_as r (term_values block.block.end.term) (term_blocks block.block.end.term) (term_names block.block.end.term).symbols =
-    is ∙ ap (λ (y : BlockLines). term_names y.end.term) block.is ∙ term_used r block.block.end.term in
-    let lines = at_each (IsRightLines f) f.blocks ib.0 block.block fine.uses block.there in
-    let stands : StandsAt f block.block.end.line (term_names block.block.end.term) = named.StandsAt.term block.block (ib.0, block.there) refl refl in
-    use_known f (known_symbols items) (term_values block.block.end.term) (term_blocks block.block.end.term) (term_names block.block.end.term).symbols lines.term
-    (λ w there. symbol_in items f block.block.end.line (term_names block.block.end.term) sound il stands w there)
-    (subst (λ (u : Names). UsesUnknown (locals_listed shown f) (blocks_listed shown f) (known_symbols items) u) uses unknown)
-
--- a printed function
+-- no name of a printed function is made again
 made_apart : (row : ℕ) (f : FuncLines) → IsFineNamed f → (n : ℕ) → IsMadeAgain (named_in (func_again row f)) n → ⊥
 made_apart row f fine n h =
     let names = names_in (named_in (func_again row f)) in
@@ -249,15 +218,52 @@ made_apart row f fine n h =
     let before = h.before in
     omega arith
 
+-- so each names what has it
+printed_local : (row : ℕ) (f : FuncLines) → IsFineNamed f → (q : Name) → IsIn (locals_listed shown f) q → NamesFirst (named_in (func_again row f)) false q
+printed_local row f fine q h = local_first (func_again row f) (made_apart row f fine) q (subst (λ (ns : List Name). IsIn ns q) (sym (locals_again row f fine.few)) h)
+
+printed_block : (row : ℕ) (f : FuncLines) → IsFineNamed f → (q : Name) → IsIn (blocks_listed shown f) q → NamesFirst (named_in (func_again row f)) true q
+printed_block row f fine q h = block_first (func_again row f) (made_apart row f fine) q (subst (λ (ns : List Name). IsIn ns q) (sym (blocks_are_again row f fine.few)) h)
+
+use_known : (row : ℕ) (f : FuncLines) → IsFineNamed f → (known : List (List ℕ)) (vals : List RawVal) (froms : List Name) (symbols : List (List ℕ)) → IsRightUse f vals froms → ((w : List ℕ) → IsIn symbols w → IsIn known w) →
+    UsesUnknown (named_in (func_again row f)) known (names_as (renaming f) vals froms symbols) → ⊥
+use_known row f fine known vals froms symbols right there (named.UsesUnknown.local name on none) = none (printed_local row f fine name (local_there f vals name right.vals on))
+use_known row f fine known vals froms symbols right there (named.UsesUnknown.block name on none) = none (printed_block row f fine name (block_there f froms name right.froms on))
+use_known row f fine known vals froms symbols right there (named.UsesUnknown.global name on none) = none (there name on)
+
+-- a line of a printed function
+line_known : (items : List ItemLines) (row : ℕ) (f : FuncLines) → NoNameFault items → IsIn items (body f) → IsFineNamed f → (n : ℕ) (used : Names) → StandsAt (func_again row f) n used →
+    UsesUnknown (named_in (func_again row f)) (known_symbols items) used → ⊥
+line_known items row f sound il fine n used (named.StandsAt.inst b x ib ii on is) unknown =
+    let r = renaming f in
+    let block = block_from r true (row + 1) (start f) f.blocks ib.0 b ib.1 in
+    let here : slice_get (block_again r block.first block.row block.next block.block).insts ii.0 ≡ Some x = subst (λ (y : BlockLines). slice_get y.insts ii.0 ≡ Some x) block.is ii.1 in
+    let line = inst_from r (block.row + length (label_said block.first block.next (label_name block.block.label))) _ block.block.insts ii.0 x here in
+    let uses : used ≡ names_as r (values_of line.line.inst) (inst_blocks line.line.inst) (inst_names line.line.inst).symbols = is ∙ ap inst_names line.is ∙ inst_used r line.line.inst in
+    let lines = at_each (IsRightLines f) f.blocks ib.0 block.block fine.uses block.there in
+    let right = at_each (IsRightInst f) block.block.insts ii.0 line.line lines.insts line.there in
+    let stands : StandsAt f line.line.line (inst_names line.line.inst) = named.StandsAt.inst block.block line.line (ib.0, block.there) (ii.0, line.there) refl refl in
+    use_known row f fine (known_symbols items) (values_of line.line.inst) (inst_blocks line.line.inst) (inst_names line.line.inst).symbols right
+    (λ w there. symbol_in items f line.line.line (inst_names line.line.inst) sound il stands w there)
+    (subst (λ (u : Names). UsesUnknown (named_in (func_again row f)) (known_symbols items) u) uses unknown)
+line_known items row f sound il fine n used (named.StandsAt.term b ib on is) unknown =
+    let r = renaming f in
+    let block = block_from r true (row + 1) (start f) f.blocks ib.0 b ib.1 in
+    let uses : used ≡ names_as r (term_values block.block.end.term) (term_blocks block.block.end.term) (term_names block.block.end.term).symbols =
+    is ∙ ap (λ (y : BlockLines). term_names y.end.term) block.is ∙ term_used r block.block.end.term in
+    let lines = at_each (IsRightLines f) f.blocks ib.0 block.block fine.uses block.there in
+    let stands : StandsAt f block.block.end.line (term_names block.block.end.term) = named.StandsAt.term block.block (ib.0, block.there) refl refl in
+    use_known row f fine (known_symbols items) (term_values block.block.end.term) (term_blocks block.block.end.term) (term_names block.block.end.term).symbols lines.term
+    (λ w there. symbol_in items f block.block.end.line (term_names block.block.end.term) sound il stands w there)
+    (subst (λ (u : Names). UsesUnknown (named_in (func_again row f)) (known_symbols items) u) uses unknown)
+
+-- a printed function
 func_known : (items : List ItemLines) (row : ℕ) (f : FuncLines) → NoNameFault items → IsIn items (body f) → IsFineNamed f → (n : ℕ) → HasFaultIn (known_symbols (items_again 1 None items)) (func_again row f) n → ⊥
 func_known items row f sound il fine n (named.HasFaultIn.small h) =
     none_small 0 (made_in (func_again row f)) (made_in f) h.at h.number h.thing (func_made row f fine.few) h.found h.written h.small
 func_known items row f sound il fine n (named.HasFaultIn.again h) = made_apart row f fine n h
 func_known items row f sound il fine n (named.HasFaultIn.unknown used stands unknown) =
-    let one = subst (λ (ns : List Name). UsesUnknown ns (blocks_of (func_again row f)) (known_symbols (items_again 1 None items)) used) (locals_again row f fine.few) unknown in
-    let two = subst (λ (ns : List Name). UsesUnknown (locals_listed shown f) ns (known_symbols (items_again 1 None items)) used) (blocks_are_again row f fine.few) one in
-    let three = subst (λ (ws : List (List ℕ)). UsesUnknown (locals_listed shown f) (blocks_listed shown f) ws used) (symbols_same 1 None items) two in
-    line_known items row f sound il fine n used stands three
+    line_known items row f sound il fine n used stands (subst (λ (ws : List (List ℕ)). UsesUnknown (named_in (func_again row f)) ws used) (symbols_same 1 None items) unknown)
 
 -- functions and globals
 symbols_apart : (items : List ItemLines) → NoNameFault items → (n : ℕ) → IsSymbolAgain (symbols_of (items_again 1 None items)) n → ⊥

@@ -33,6 +33,7 @@ use Rattle.ms_resolve.specs.Cause.{NoNameFault}
 use Rattle.ms_resolve.specs.Places.{is_word_there}
 use Rattle.ms_resolve.specs.Scope.{Scope, number_of_word, or_first, func_of}
 use Rattle.ms_resolve.specs.Module.{names_of, scope_of, bodies_in, funcs_of, body_in, module_of, func_names_in, global_names_in}
+use Rattle.ms_resolve.proofs.FirstFacts.{first_local, first_block}
 use Rattle.ms_resolve.proofs.Members.{Among, among_in, in_among, there_word, word_there_any}
 use Rattle.ms_resolve.proofs.PlaceLemmas.{seek, seek_is}
 use Rattle.ms_print.specs.Lines.{word_at, text_in}
@@ -234,11 +235,11 @@ known_symbols items = map name_of_symbol (symbols_of items)
 
 pub local_known : (items : List ItemLines) (f : FuncLines) (n : ℕ) (used : Names) → NoNameFault items → IsIn items (body f) → StandsAt f n used → (q : Name) → IsNamed q → IsIn used.locals q → Among (locals_of f) q
 local_known items f n used sound il stands q is_name on =
-    known_name (locals_of f) q (named_same q is_name) (λ none. sound n (named.HasNameFault.inside f il (named.HasFaultIn.unknown used stands (named.UsesUnknown.local q on none))))
+    known_name (locals_of f) q (named_same q is_name) (λ none. sound n (named.HasNameFault.inside f il (named.HasFaultIn.unknown used stands (named.UsesUnknown.local q on (λ first. none (first_local f q first))))))
 
 pub block_known : (items : List ItemLines) (f : FuncLines) (n : ℕ) (used : Names) → NoNameFault items → IsIn items (body f) → StandsAt f n used → (q : Name) → IsNamed q → IsIn used.blocks q → Among (blocks_of f) q
 block_known items f n used sound il stands q is_name on =
-    known_name (blocks_of f) q (named_same q is_name) (λ none. sound n (named.HasNameFault.inside f il (named.HasFaultIn.unknown used stands (named.UsesUnknown.block q on none))))
+    known_name (blocks_of f) q (named_same q is_name) (λ none. sound n (named.HasNameFault.inside f il (named.HasFaultIn.unknown used stands (named.UsesUnknown.block q on (λ first. none (first_block f q first))))))
 
 pub symbol_in : (items : List ItemLines) (f : FuncLines) (n : ℕ) (used : Names) → NoNameFault items → IsIn items (body f) → StandsAt f n used → (w : List ℕ) → IsIn used.symbols w → IsIn (known_symbols items) w
 symbol_in items f n used sound il stands w on =

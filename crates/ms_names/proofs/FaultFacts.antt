@@ -1,30 +1,30 @@
 -- The least line of a module with a fault in its names.
-use Rattle.std.proofs.Common.{◌≡◌, ◌∙◌, ◌⊎◌, inl, inr, ℕ, true, not, List, [], ◌∷◌, Option, Some, None, map, refl, sym, ap, subst}
+use Rattle.std.proofs.Common.{◌≡◌, ◌∙◌, ◌⊎◌, inl, inr, ℕ, true, false, List, [], ◌∷◌, Option, Some, None, map, refl, sym, ap, subst}
 use Rattle.std.specs.List.{flat_map}
 use Rattle.ms_grammar.specs.Kept.{Each}
 use Rattle.ms_grammar.specs.declared.line.Head.{Head}
 use Rattle.ms_grammar.specs.declared.line.Line.{Line}
 use Rattle.ms_grammar.specs.declared.line.Line.TheVariants as said
 use Rattle.ms_names.specs.Shape.{FuncLines, ItemLines, plain, body, block_lines, item_lines, HasBlocks, stands_outside, IsItem}
-use Rattle.ms_names.specs.Made.{made_in, locals_of, blocks_of}
+use Rattle.ms_names.specs.Made.{made_in, named_in}
 use Rattle.ms_names.specs.Faults.{symbols_of, name_of_symbol, IsSymbolAgain, HasFaultIn, small, again, unknown, HasNameFault, symbol, inside}
 use Rattle.ms_names.specs.Draft.{earlier, symbols_after, no_symbols, register_all, no_names}
-use Rattle.ms_names.specs.Uses.{Known, known_by, least_lacking, least_in, least_in_line, least_after}
+use Rattle.ms_names.specs.Uses.{known_by, least_lacking, least_in, least_in_line, least_after}
 use Rattle.ms_names.specs.declared.register.Register.{Register}
 use Rattle.ms_names.proofs.Folds.{is_inner, items_after, IsFold, along_items}
 use Rattle.ms_names.proofs.Members.{Among, among_in, in_among}
 use Rattle.ms_names.proofs.Least.{IsLeastOf, least_change, least_join}
-use Rattle.ms_names.proofs.Registers.{IsMadeFault, register_least, register_is, locals_all, blocks_all_named}
-use Rattle.ms_names.proofs.UseFacts.{AreFull, IsLacking, lacking_least, lacking_stands, stands_lacking, named_full}
+use Rattle.ms_names.proofs.Registers.{IsMadeFault, register_least, register_is, local_found_first, block_found_first}
+use Rattle.ms_names.proofs.UseFacts.{KnowsFirst, IsLacking, lacking_least, lacking_stands, stands_lacking}
+use Rattle.ms_names.proofs.FirstFacts.{is_first, first_is_so}
 use Rattle.ms_names.proofs.SymbolFacts.{all_are, symbols_least}
 
-abbrev function_known : List (List ℕ) → FuncLines → Known
-function_known symbols f = record { locals = locals_of f; blocks = blocks_of f; symbols = symbols }
-
-known_is : (symbols : List (List ℕ)) (f : FuncLines) → known_by (register_all no_names (made_in f)) symbols ≡ function_known symbols f
-known_is symbols f =
-    ap (λ ls. let k : Known = record { locals = ls; blocks = (register_all no_names (made_in f)).blocks; symbols = symbols } in k) (locals_all (made_in f) no_names)
-    ∙ ap (λ bs. let k : Known = record { locals = locals_of f; blocks = bs; symbols = symbols } in k) (blocks_all_named (made_in f) no_names)
+-- the names that a function's register finds are the ones that name something
+knows_first : (f : FuncLines) (symbols : List (List ℕ)) → KnowsFirst (known_by (register_all no_names (made_in f)) symbols) (named_in f)
+knows_first f symbols = record {
+  locals = λ q. (λ e. is_first false q (named_in f) (sym (local_found_first q (made_in f)) ∙ e), λ h. local_found_first q (made_in f) ∙ first_is_so false q (made_in f) h);
+  blocks = λ q. (λ e. is_first true q (named_in f) (sym (block_found_first q (made_in f)) ∙ e), λ h. block_found_first q (made_in f) ∙ first_is_so true q (made_in f) h);
+}
 
 abbrev function_least : List (List ℕ) → FuncLines → Option ℕ
 function_least symbols f = least_in symbols f.line f.head (flat_map block_lines f.blocks)
@@ -32,25 +32,22 @@ function_least symbols f = least_in symbols f.line f.head (flat_map block_lines 
 pub function_least_is : (symbols : List (List ℕ)) (f : FuncLines) → HasBlocks f.blocks → IsLeastOf (HasFaultIn symbols f) (function_least symbols f)
 function_least_is symbols f h =
     let lines = flat_map block_lines f.blocks in
-    let k = function_known symbols f in
+    let k = known_by (register_all no_names (made_in f)) symbols in
+    let knows = knows_first f symbols in
     let o = least_lacking k (register_all no_names (made_in f)).least lines in
-    let full_locals : AreFull k.locals = named_full (λ m. not m.is_block) (made_in f) 0 in
-    let full_blocks : AreFull k.blocks = named_full (λ m. m.is_block) (made_in f) 0 in
     let found : IsLeastOf (HasFaultIn symbols f) o = least_change (λ n. IsMadeFault (made_in f) n ⊎ IsLacking k lines n) (HasFaultIn symbols f) o
     (λ n e. elim e [
       | inl m ↦ elim m [ inl s ↦ small s | inr a ↦ again a ]
-      | inr l ↦ let r = lacking_stands k full_locals full_blocks f n l in unknown r.0 r.1 r.2
+      | inr l ↦ let r = lacking_stands k (named_in f) knows f n l in unknown r.0 r.1 r.2
     ])
     (λ n e. elim e [
       | small s ↦ inl (inl s)
       | again a ↦ inl (inr a)
-      | unknown used s u ↦ inr (stands_lacking k f n used s u)
+      | unknown used s u ↦ inr (stands_lacking k (named_in f) knows f n used s u)
     ])
     (lacking_least k lines (IsMadeFault (made_in f)) (register_all no_names (made_in f)).least (register_least (made_in f))) in
     let P : Option ℕ → Type 0 = λ o. IsLeastOf (HasFaultIn symbols f) o in
-    let same : function_least symbols f ≡ o =
-    ap (λ (r : Register). least_lacking (known_by r symbols) r.least lines) (register_is f h)
-    ∙ ap (λ k. least_lacking k (register_all no_names (made_in f)).least lines) (known_is symbols f) in
+    let same : function_least symbols f ≡ o = ap (λ (r : Register). least_lacking (known_by r symbols) r.least lines) (register_is f h) in
     subst P (sym same) found
 
 -- all functions

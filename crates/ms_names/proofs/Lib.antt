@@ -1,6 +1,7 @@
 pub mod PlaceLemmas
 pub mod Members
 pub mod Least
+pub mod FirstFacts
 pub mod Folds
 pub mod Registers
 pub mod SymbolFacts

@@ -1,6 +1,6 @@
 -- First places of names.
 use Rattle.std.proofs.Common.{◌≡◌, ⊎_elim, ℕ, suc, List, [], ◌∷◌, ◌++◌, Bool, true, false, Option, Some, None, length, map, refl, ap, sym, ◌∙◌, arith, bytes_eq}
-use Rattle.std.specs.Prelude.{nat_eq, position, if◌then◌else◌}
+use Rattle.std.specs.Prelude.{nat_eq, position, is_some, ◌||◌, if◌then◌else◌}
 use Rattle.std.specs.Map.{update}
 use Rattle.std.specs.Option.{option_map}
 use Rattle.std.specs.Cmp.{nat_eq_equiv}
@@ -11,7 +11,7 @@ use Rattle.std.proofs.lemmas.Grind.{common_steps}
 use Rattle.ms_ir.specs.declared.names.Name.{Name}
 use Rattle.ms_ir.specs.declared.names.Name.TheVariants.{Word, Number, Absent}
 use Rattle.ms_names.specs.Made.{is_same_name}
-use Rattle.ms_names.specs.Places.{word_place, name_place, or_here}
+use Rattle.ms_names.specs.Places.{word_place, name_place, is_name_there, or_here}
 
 pub or_here_not : (o : Option ℕ) (place : ℕ) → or_here o false place ≡ o
 or_here_not (Some k) place = refl
@@ -45,6 +45,20 @@ seek_added p (x ∷ xs) y = ap (λ o. if p x then Some 0 else option_map suc o) 
 -- the place after a further thing
 pub place_added : {X : Type 0} (p : X → Bool) (xs : List X) (y : X) → position p (xs ++ y ∷ []) ≡ or_here (position p xs) (p y) (length xs)
 place_added p xs y = seek_is p (xs ++ y ∷ []) ∙ seek_added p xs y ∙ sym (ap (λ o. or_here o (p y) (length xs)) (seek_is p xs))
+
+some_here : (o : Option ℕ) (here : Bool) (place : ℕ) → is_some (or_here o here place) ≡ (is_some o || here)
+some_here (Some k) here place = refl
+some_here None true place = refl
+some_here None false place = refl
+
+-- whether a name is there after a further one
+pub there_added : (names : List Name) (y q : Name) → is_name_there (names ++ y ∷ []) q ≡ (is_name_there names q || is_same_name q y)
+there_added names y q = ap (λ (o : Option ℕ). is_some o) (place_added (is_same_name q) names y) ∙ some_here (name_place names q) (is_same_name q y) (length names)
+
+pub same_absent : (q : Name) → is_same_name q Absent ≡ false
+same_absent (Word w) = refl
+same_absent (Number n) = refl
+same_absent Absent = refl
 
 nowhere : {X : Type 0} (p : X → Bool) → ((x : X) → p x ≡ false) → (xs : List X) → seek p xs ≡ None
 nowhere p none [] = refl

@@ -1,7 +1,8 @@
 -- The register of a function's lines: its names, and the least line with a fault among what is made.
-use Rattle.std.proofs.Common.{◌≡◌, ◌∙◌, ◌⊎◌, inl, inr, ℕ, suc, zero, ◌<◌, Bool, true, false, cond, List, [], ◌∷◌, ◌++◌, Option, Some, None, map, take, refl, sym, ap, subst, arith, append_assoc}
-use Rattle.std.specs.Prelude.{◌||◌, not, filter, nat_lt, min, is_some, if◌then◌else◌}
-use Rattle.std.specs.List.{slice_get, flat_map}
+use Rattle.std.proofs.Common.{◌≡◌, ◌∙◌, ◌⊎◌, inl, inr, ⊎_elim, ℕ, suc, zero, ◌<◌, Bool, true, false, cond, List, [], ◌∷◌, ◌++◌, Option, Some, None, map, take, refl, sym, ap, subst, arith, append_assoc}
+use Rattle.std.specs.Prelude.{◌||◌, ◌&&◌, not, filter, nat_lt, min, is_some, if◌then◌else◌}
+use Rattle.std.specs.List.{slice_get, list_any, flat_map}
+use Rattle.std.proofs.lemmas.Bool.{cases_Bool}
 use Rattle.std.proofs.lemmas.Bool.Decides.{nat_tests}
 use Rattle.ms_ir.specs.declared.names.Name.{Name}
 use Rattle.ms_ir.specs.declared.names.Name.TheVariants.{Word, Number, Absent}
@@ -11,12 +12,14 @@ use Rattle.ms_grammar.specs.declared.line.Line.{Line}
 use Rattle.ms_grammar.specs.declared.line.Line.TheVariants as said
 use Rattle.ms_grammar.specs.declared.line.Head.{Head}
 use Rattle.ms_names.specs.Shape.{LabelLine, InstLine, BlockLines, FuncLines, inst_line, label_lines, block_lines, HasLabel, HasBlocks}
-use Rattle.ms_names.specs.Made.{Made, param_made, inst_made, label_made, block_made, made_in, full_name, free_behind, free_after, named_from, name_of_made, is_same_name}
+use Rattle.ms_names.specs.Made.{Made, param_made, inst_made, label_made, block_made, made_in, full_name, free_behind, free_after, named_from, name_of_made, is_same_name, locals_of, blocks_of}
 use Rattle.ms_names.specs.Faults.{IsTooSmall, IsMadeAgain}
 use Rattle.ms_names.specs.Places.{is_name_there}
-use Rattle.ms_names.specs.Draft.{earlier, with_fault, is_small, register_with, register_all, no_names, params_after, line_made, lines_after, first_made, register_in}
+use Rattle.ms_names.specs.Draft.{earlier, with_fault, is_small, is_taken, found_as, register_with, register_all, no_names, params_after, line_made, lines_after, first_made, register_in}
 use Rattle.ms_names.specs.declared.register.Register.{Register}
-use Rattle.ms_names.proofs.Members.{Among, among_in, get_among, among_map, map_among, among_filter, filter_among, there_name, name_there, full_same, or_either, or_left, or_right}
+use Rattle.ms_names.proofs.PlaceLemmas.{there_added, same_absent}
+use Rattle.ms_names.proofs.Members.{Among, among_in, get_among, any_among, among_any, same_name, full_same, or_either, or_left, or_right}
+use Rattle.ms_names.proofs.FirstFacts.{first_is, has_name, either_kind}
 use Rattle.ms_names.proofs.Least.{IsLeastOf, least_change, run, least_along, FaultAlong, least_along_is, along_at, at_along}
 
 -- the register of things made, one behind another
@@ -87,33 +90,118 @@ pub next_all : (ms : List Made) (r : Register) → (register_all r ms).next ≡ 
 next_all [] r = refl
 next_all (m ∷ ms) r = next_all ms (register_with r m)
 
-local_step : (b : Bool) (ls : List Name) (x : Made) (fs : List Made) → (if b then ls else ls ++ x.name ∷ []) ++ map name_of_made fs ≡ ls ++ map name_of_made (cond (not b) (x ∷ fs) fs)
-local_step true ls x fs = refl
-local_step false ls x fs = append_assoc ls (x.name ∷ []) (map name_of_made fs)
+-- what the register finds
+or_none : (a b : Bool) → a ≡ (a || (b && false))
+or_none true b = refl
+or_none false true = refl
+or_none false false = refl
 
-block_step : (b : Bool) (ls : List Name) (x : Made) (fs : List Made) → (if b then ls ++ x.name ∷ [] else ls) ++ map name_of_made fs ≡ ls ++ map name_of_made (cond b (x ∷ fs) fs)
-block_step false ls x fs = refl
-block_step true ls x fs = append_assoc ls (x.name ∷ []) (map name_of_made fs)
+and_none : (a b : Bool) → (a && false) ≡ (b && false)
+and_none true true = refl
+and_none true false = refl
+and_none false true = refl
+and_none false false = refl
 
-append_none : (xs : List Name) → xs ≡ xs ++ []
-append_none [] = refl
-append_none (x ∷ xs) = ap (λ r. x ∷ r) (append_none xs)
+found_same : (taken : Bool) (full q : Name) → is_same_name q (found_as taken full) ≡ (not taken && is_same_name q full)
+found_same true full q = same_absent q
+found_same false full q = refl
 
-pub locals_all : (ms : List Made) (r : Register) → (register_all r ms).locals ≡ r.locals ++ map name_of_made (filter (λ m. not m.is_block) (named_from r.next ms))
-locals_all [] r = append_none r.locals
-locals_all (m ∷ ms) r =
-    locals_all ms (register_with r m)
-    ∙ local_step m.is_block r.locals (record m { name = full_name r.next m.name }) (filter (λ m. not m.is_block) (named_from (free_behind r.next m.name) ms))
+taken_same : (r : Register) (full q : Name) → (not (is_taken r full) && is_same_name q full) ≡ (not (is_taken r q) && is_same_name q full)
+taken_same r full q = ⊎_elim (λ (t : is_same_name q full ≡ true). ap (λ n. not (is_taken r n) && is_same_name q full) (sym (same_name q full t)))
+    (λ (f : is_same_name q full ≡ false). rw f (and_none (not (is_taken r full)) (not (is_taken r q))))
+    (cases_Bool (is_same_name q full))
 
-pub blocks_all_named : (ms : List Made) (r : Register) → (register_all r ms).blocks ≡ r.blocks ++ map name_of_made (filter (λ m. m.is_block) (named_from r.next ms))
-blocks_all_named [] r = append_none r.blocks
-blocks_all_named (m ∷ ms) r =
-    blocks_all_named ms (register_with r m)
-    ∙ block_step m.is_block r.blocks (record m { name = full_name r.next m.name }) (filter (λ m. m.is_block) (named_from (free_behind r.next m.name) ms))
+-- a further thing is found by its name where nothing has it
+abbrev is_new : Register → Made → Name → Bool
+is_new r m q = not (is_taken r q) && is_same_name q (full_name r.next m.name)
+
+new_same : (r : Register) (m : Made) (q : Name) → is_same_name q (found_as (is_taken r (full_name r.next m.name)) (full_name r.next m.name)) ≡ is_new r m q
+new_same r m q = found_same (is_taken r (full_name r.next m.name)) (full_name r.next m.name) q ∙ taken_same r (full_name r.next m.name) q
+
+added_unless : (b : Bool) (names : List Name) (y q : Name) → is_name_there (if b then names else names ++ y ∷ []) q ≡ (is_name_there names q || (not b && is_same_name q y))
+added_unless true names y q = or_none (is_name_there names q) false
+added_unless false names y q = there_added names y q
+
+added_if : (b : Bool) (names : List Name) (y q : Name) → is_name_there (if b then names ++ y ∷ [] else names) q ≡ (is_name_there names q || (b && is_same_name q y))
+added_if true names y q = there_added names y q
+added_if false names y q = or_none (is_name_there names q) false
+
+local_found : (r : Register) (m : Made) (q : Name) → is_name_there (register_with r m).locals q ≡ (is_name_there r.locals q || (not m.is_block && is_new r m q))
+local_found r m q =
+    added_unless m.is_block r.locals (found_as (is_taken r (full_name r.next m.name)) (full_name r.next m.name)) q
+    ∙ ap (λ b. is_name_there r.locals q || (not m.is_block && b)) (new_same r m q)
+
+block_found : (r : Register) (m : Made) (q : Name) → is_name_there (register_with r m).blocks q ≡ (is_name_there r.blocks q || (m.is_block && is_new r m q))
+block_found r m q =
+    added_if m.is_block r.blocks (found_as (is_taken r (full_name r.next m.name)) (full_name r.next m.name)) q
+    ∙ ap (λ b. is_name_there r.blocks q || (m.is_block && b)) (new_same r m q)
+
+-- a name that is there or not among locals, among blocks; a further thing that is a block or not and has the name or not; what comes then
+abbrev with_local : Bool → Bool → Bool → Bool → Bool
+with_local l b k s = l || (not k && (not (l || b) && s))
+
+abbrev with_block : Bool → Bool → Bool → Bool → Bool
+with_block l b k s = b || (k && (not (l || b) && s))
+
+join_local : (l b k s rest : Bool) → (with_local l b k s || (not (with_local l b k s || with_block l b k s) && rest)) ≡ (l || (not (l || b) && (if s then not k else rest)))
+join_local true b k s rest = refl
+join_local false true true s rest = refl
+join_local false true false s rest = refl
+join_local false false true true rest = refl
+join_local false false true false rest = refl
+join_local false false false true rest = refl
+join_local false false false false rest = refl
+
+join_block : (l b k s rest : Bool) → (with_block l b k s || (not (with_local l b k s || with_block l b k s) && rest)) ≡ (b || (not (l || b) && (if s then k else rest)))
+join_block true true k s rest = refl
+join_block false true k s rest = refl
+join_block true false true s rest = refl
+join_block true false false s rest = refl
+join_block false false true true rest = refl
+join_block false false true false rest = refl
+join_block false false false true rest = refl
+join_block false false false false rest = refl
+
+locals_found : (q : Name) (ms : List Made) (r : Register) → is_name_there (register_all r ms).locals q ≡ (is_name_there r.locals q || (not (is_taken r q) && first_is false q (named_from r.next ms)))
+locals_found q [] r = or_none (is_name_there r.locals q) (not (is_taken r q))
+locals_found q (m ∷ ms) r =
+    let l = is_name_there r.locals q in
+    let b = is_name_there r.blocks q in
+    let s = is_same_name q (full_name r.next m.name) in
+    let rest = first_is false q (named_from (free_behind r.next m.name) ms) in
+    locals_found q ms (register_with r m)
+    ∙ ap (λ x. x || (not (x || is_name_there (register_with r m).blocks q) && rest)) (local_found r m q)
+    ∙ ap (λ y. with_local l b m.is_block s || (not (with_local l b m.is_block s || y) && rest)) (block_found r m q)
+    ∙ join_local l b m.is_block s rest
+
+blocks_found : (q : Name) (ms : List Made) (r : Register) → is_name_there (register_all r ms).blocks q ≡ (is_name_there r.blocks q || (not (is_taken r q) && first_is true q (named_from r.next ms)))
+blocks_found q [] r = or_none (is_name_there r.blocks q) (not (is_taken r q))
+blocks_found q (m ∷ ms) r =
+    let l = is_name_there r.locals q in
+    let b = is_name_there r.blocks q in
+    let s = is_same_name q (full_name r.next m.name) in
+    let rest = first_is true q (named_from (free_behind r.next m.name) ms) in
+    blocks_found q ms (register_with r m)
+    ∙ ap (λ x. x || (not (is_name_there (register_with r m).locals q || x) && rest)) (block_found r m q)
+    ∙ ap (λ y. with_block l b m.is_block s || (not (y || with_block l b m.is_block s) && rest)) (local_found r m q)
+    ∙ join_block l b m.is_block s rest
+
+-- in the register of all things a name is found that the first thing with it has
+pub local_found_first : (q : Name) (ms : List Made) → is_name_there (register_all no_names ms).locals q ≡ first_is false q (named_from 0 ms)
+local_found_first q ms = locals_found q ms no_names
+
+pub block_found_first : (q : Name) (ms : List Made) → is_name_there (register_all no_names ms).blocks q ≡ first_is true q (named_from 0 ms)
+block_found_first q ms = blocks_found q ms no_names
+
+taken_any : (q : Name) (ms : List Made) → is_taken (register_all no_names ms) q ≡ list_any (has_name q) (named_from 0 ms)
+taken_any q ms =
+    ap (λ b. b || is_name_there (register_all no_names ms).blocks q) (local_found_first q ms)
+    ∙ ap (λ b. first_is false q (named_from 0 ms) || b) (block_found_first q ms)
+    ∙ either_kind q (named_from 0 ms)
 
 -- the least line with a fault
 abbrev pub is_bad : Register → Made → Bool
-is_bad r m = is_small r.next m.name || (is_name_there r.locals (full_name r.next m.name) || is_name_there r.blocks (full_name r.next m.name))
+is_bad r m = is_small r.next m.name || is_taken r (full_name r.next m.name)
 
 abbrev pub made_line : Made → ℕ
 made_line m = m.line
@@ -128,7 +216,7 @@ twice o true false n = refl
 twice o true true n = earlier_twice o n
 
 least_step : (r : Register) (m : Made) → (register_with r m).least ≡ with_fault r.least (is_bad r m) m.line
-least_step r m = twice r.least (is_small r.next m.name) (is_name_there r.locals (full_name r.next m.name) || is_name_there r.blocks (full_name r.next m.name)) m.line
+least_step r m = twice r.least (is_small r.next m.name) (is_taken r (full_name r.next m.name)) m.line
 
 pub least_all : (ms : List Made) (r : Register) → (register_all r ms).least ≡ least_along register_with is_bad made_line r r.least ms
 least_all [] r = refl
@@ -202,17 +290,13 @@ again_by made n at m found on x h same =
       on = on;
     }
 
-local_there : (ms : List Made) (q : Name) → is_name_there (register_all no_names ms).locals q ≡ true → (x : Made) × Among (named_from 0 ms) x × (x.name ≡ q)
-local_there ms q e =
-    let h = there_name (map name_of_made (filter (λ m. not m.is_block) (named_from 0 ms))) q (ap (λ ns. is_name_there ns q) (sym (locals_all ms no_names)) ∙ e) in
-    let r = among_map name_of_made (filter (λ m. not m.is_block) (named_from 0 ms)) q h in
-    (r.0, (among_filter (λ m. not m.is_block) (named_from 0 ms) r.0 r.1).0, r.2)
+taken_there : (ms : List Made) (q : Name) → is_taken (register_all no_names ms) q ≡ true → (x : Made) × Among (named_from 0 ms) x × (x.name ≡ q)
+taken_there ms q e =
+    let r = any_among (has_name q) (named_from 0 ms) (sym (taken_any q ms) ∙ e) in
+    (r.0, r.1, sym (same_name q r.0.name r.2))
 
-block_there : (ms : List Made) (q : Name) → is_name_there (register_all no_names ms).blocks q ≡ true → (x : Made) × Among (named_from 0 ms) x × (x.name ≡ q)
-block_there ms q e =
-    let h = there_name (map name_of_made (filter (λ m. m.is_block) (named_from 0 ms))) q (ap (λ ns. is_name_there ns q) (sym (blocks_all_named ms no_names)) ∙ e) in
-    let r = among_map name_of_made (filter (λ m. m.is_block) (named_from 0 ms)) q h in
-    (r.0, (among_filter (λ m. m.is_block) (named_from 0 ms) r.0 r.1).0, r.2)
+there_taken : (ms : List Made) (x : Made) (q : Name) → is_same_name q q ≡ true → Among (named_from 0 ms) x → x.name ≡ q → is_taken (register_all no_names ms) q ≡ true
+there_taken ms x q self h same = taken_any q ms ∙ among_any (has_name q) (named_from 0 ms) x h (ap (is_same_name q) same ∙ self)
 
 fault_made : (made : List Made) (n at : ℕ) (m : Made) → slice_get made at ≡ Some m → m.line ≡ n → is_bad (before made at) m ≡ true → IsMadeFault made n
 fault_made made n at m found on bad =
@@ -220,29 +304,13 @@ fault_made made n at m found on bad =
     let next : r.next ≡ free_after 0 (take at made) = next_all (take at made) no_names in
     let full = full_name r.next m.name in
     let is : full ≡ full_name (free_after 0 (take at made)) m.name = ap (λ k. full_name k m.name) next in
-    elim (or_either (is_small r.next m.name) (is_name_there r.locals full || is_name_there r.blocks full) bad) [
+    elim (or_either (is_small r.next m.name) (is_taken r full) bad) [
       | inl s ↦
           let k = small_number r.next m.name s in
           let small : k.0 < free_after 0 (take at made) = (let P : ℕ → Type 0 = λ b. k.0 < b in subst P next k.2) in
           inl (record { at = at; thing = m; number = k.0; found = found; written = k.1; small = small; on = on })
-      | inr a ↦ elim (or_either (is_name_there r.locals full) (is_name_there r.blocks full) a) [
-        | inl l ↦ let x = local_there (take at made) full l in inr (again_by made n at m found on x.0 x.1 (x.2 ∙ is))
-        | inr b ↦ let x = block_there (take at made) full b in inr (again_by made n at m found on x.0 x.1 (x.2 ∙ is))
-      ]
+      | inr a ↦ let x = taken_there (take at made) full a in inr (again_by made n at m found on x.0 x.1 (x.2 ∙ is))
     ]
-
-there_local : (ms : List Made) (x : Made) (q : Name) (b : Bool) → x.is_block ≡ b → is_same_name q q ≡ true → Among (named_from 0 ms) x → x.name ≡ q
-    → (is_name_there (register_all no_names ms).locals q || is_name_there (register_all no_names ms).blocks q) ≡ true
-there_local ms x q false kind self h same =
-    let locals = map name_of_made (filter (λ m. not m.is_block) (named_from 0 ms)) in
-    let P : Name → Type 0 = λ n. Among locals n in
-    let there : Among locals q = subst P same (map_among name_of_made (filter (λ m. not m.is_block) (named_from 0 ms)) x (filter_among (λ m. not m.is_block) (named_from 0 ms) x h (ap not kind))) in
-    or_left _ _ (ap (λ ns. is_name_there ns q) (locals_all ms no_names) ∙ name_there locals q self there)
-there_local ms x q true kind self h same =
-    let blocks = map name_of_made (filter (λ m. m.is_block) (named_from 0 ms)) in
-    let P : Name → Type 0 = λ n. Among blocks n in
-    let there : Among blocks q = subst P same (map_among name_of_made (filter (λ m. m.is_block) (named_from 0 ms)) x (filter_among (λ m. m.is_block) (named_from 0 ms) x h kind)) in
-    or_right _ _ (ap (λ ns. is_name_there ns q) (blocks_all_named ms no_names) ∙ name_there blocks q self there)
 
 -- and the other way
 made_fault : (made : List Made) (n : ℕ) → IsMadeFault made n → FaultAlong register_with is_bad made_line no_names made n
@@ -262,10 +330,15 @@ made_fault made n h = elim h [
       let one : Among (named_from 0 (take a.at made)) a.one =
       get_among (named_from 0 (take a.at made)) a.first a.one (subst P (sym (named_take made a.at 0)) (get_take (named_from 0 made) a.at a.first a.one a.before a.first_is)) in
       let same : a.one.name ≡ full = a.same ∙ ap name_of_made m.2 ∙ ap (λ k. full_name k m.0.name) (sym next) in
-      let bad : is_bad r m.0 ≡ true = or_right (is_small r.next m.0.name) _ (there_local (take a.at made) a.one full a.one.is_block refl (full_same r.next m.0.name) one same) in
+      let bad : is_bad r m.0 ≡ true = or_right (is_small r.next m.0.name) _ (there_taken (take a.at made) a.one full (full_same r.next m.0.name) one same) in
       let on : m.0.line ≡ n = sym (ap made_line m.2) ∙ a.on in
       at_along register_with is_bad made_line made no_names n a.at m.0 m.1 (ap (λ t. is_bad t m.0) (run_is (take a.at made) no_names) ∙ bad) on
 ]
+
+along_made : (made : List Made) (n : ℕ) → FaultAlong register_with is_bad made_line no_names made n → IsMadeFault made n
+along_made made n f =
+    let a = along_at register_with is_bad made_line made no_names n f in
+    fault_made made n a.at a.x a.found a.on (ap (λ t. is_bad t a.x) (sym (run_is (take a.at made) no_names)) ∙ a.bad)
 
 pub register_least : (made : List Made) → IsLeastOf (IsMadeFault made) (register_all no_names made).least
 register_least made =
@@ -274,11 +347,50 @@ register_least made =
     let o = least_along register_with is_bad made_line no_names None made in
     let along : IsLeastOf (λ n. None_ n ⊎ F n) o = least_along_is register_with is_bad made_line made no_names None_ None (λ n h. h) in
     let changed : IsLeastOf (IsMadeFault made) o = least_change (λ n. None_ n ⊎ F n) (IsMadeFault made) o
-    (λ n e. elim e [
-      | inl never ↦ absurd never
-      | inr f ↦
-          let a = along_at register_with is_bad made_line made no_names n f in
-          fault_made made n a.at a.x a.found a.on (ap (λ t. is_bad t a.x) (sym (run_is (take a.at made) no_names)) ∙ a.bad)
-    ]) (λ n h. inr (made_fault made n h)) along in
+    (λ n e. elim e [ inl never ↦ absurd never | inr f ↦ along_made made n f ]) (λ n h. inr (made_fault made n h)) along in
     let P : Option ℕ → Type 0 = λ o. IsLeastOf (IsMadeFault made) o in
     subst P (sym (least_all made no_names)) changed
+
+-- without a fault the register has all names
+local_step : (b : Bool) (ls : List Name) (x : Made) (fs : List Made) → (if b then ls else ls ++ x.name ∷ []) ++ map name_of_made fs ≡ ls ++ map name_of_made (cond (not b) (x ∷ fs) fs)
+local_step true ls x fs = refl
+local_step false ls x fs = append_assoc ls (x.name ∷ []) (map name_of_made fs)
+
+block_step : (b : Bool) (ls : List Name) (x : Made) (fs : List Made) → (if b then ls ++ x.name ∷ [] else ls) ++ map name_of_made fs ≡ ls ++ map name_of_made (cond b (x ∷ fs) fs)
+block_step false ls x fs = refl
+block_step true ls x fs = append_assoc ls (x.name ∷ []) (map name_of_made fs)
+
+append_none : (xs : List Name) → xs ≡ xs ++ []
+append_none [] = refl
+append_none (x ∷ xs) = ap (λ r. x ∷ r) (append_none xs)
+
+abbrev AreFine : Register → List Made → Type 0
+AreFine r ms = (n : ℕ) → FaultAlong register_with is_bad made_line r ms n → ⊥
+
+found_full : (r : Register) (m : Made) (ms : List Made) → AreFine r (m ∷ ms) → found_as (is_taken r (full_name r.next m.name)) (full_name r.next m.name) ≡ full_name r.next m.name
+found_full r m ms fine = ⊎_elim
+    (λ (t : is_taken r (full_name r.next m.name) ≡ true). absurd (fine m.line (inl (or_right (is_small r.next m.name) _ t, refl))))
+    (λ (f : is_taken r (full_name r.next m.name) ≡ false). ap (λ b. found_as b (full_name r.next m.name)) f)
+    (cases_Bool (is_taken r (full_name r.next m.name)))
+
+locals_all : (ms : List Made) (r : Register) → AreFine r ms → (register_all r ms).locals ≡ r.locals ++ map name_of_made (filter (λ m. not m.is_block) (named_from r.next ms))
+locals_all [] r fine = append_none r.locals
+locals_all (m ∷ ms) r fine =
+    let rest = filter (λ (x : Made). not x.is_block) (named_from (free_behind r.next m.name) ms) in
+    locals_all ms (register_with r m) (λ n h. fine n (inr h))
+    ∙ ap (λ (y : Name). (if m.is_block then r.locals else r.locals ++ y ∷ []) ++ map name_of_made rest) (found_full r m ms fine)
+    ∙ local_step m.is_block r.locals (record m { name = full_name r.next m.name }) rest
+
+blocks_all_named : (ms : List Made) (r : Register) → AreFine r ms → (register_all r ms).blocks ≡ r.blocks ++ map name_of_made (filter (λ m. m.is_block) (named_from r.next ms))
+blocks_all_named [] r fine = append_none r.blocks
+blocks_all_named (m ∷ ms) r fine =
+    let rest = filter (λ (x : Made). x.is_block) (named_from (free_behind r.next m.name) ms) in
+    blocks_all_named ms (register_with r m) (λ n h. fine n (inr h))
+    ∙ ap (λ (y : Name). (if m.is_block then r.blocks ++ y ∷ [] else r.blocks) ++ map name_of_made rest) (found_full r m ms fine)
+    ∙ block_step m.is_block r.blocks (record m { name = full_name r.next m.name }) rest
+
+pub locals_are : (f : FuncLines) → ((n : ℕ) → IsMadeFault (made_in f) n → ⊥) → (register_all no_names (made_in f)).locals ≡ locals_of f
+locals_are f none = locals_all (made_in f) no_names (λ n h. none n (along_made (made_in f) n h))
+
+pub blocks_are : (f : FuncLines) → ((n : ℕ) → IsMadeFault (made_in f) n → ⊥) → (register_all no_names (made_in f)).blocks ≡ blocks_of f
+blocks_are f none = blocks_all_named (made_in f) no_names (λ n h. none n (along_made (made_in f) n h))

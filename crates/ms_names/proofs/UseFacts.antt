@@ -1,6 +1,6 @@
--- Lines that use a name that is made nowhere.
+-- Lines that use a name that is not there.
 use Rattle.std.proofs.Common.{◌≡◌, ◌∙◌, ◌⊎◌, inl, inr, ℕ, Bool, true, false, not, List, [], ◌∷◌, ◌++◌, Option, Some, None, map, refl, sym, ap, subst}
-use Rattle.std.specs.Prelude.{◌||◌, filter}
+use Rattle.std.specs.Prelude.{◌||◌}
 use Rattle.std.specs.List.{list_any, flat_map}
 use Rattle.ms_ir.specs.declared.names.Name.{Name}
 use Rattle.ms_grammar.specs.Form.{name_text}
@@ -15,12 +15,12 @@ use Rattle.ms_grammar.specs.declared.line.RawInst.TheVariants.{Alloca, Gep, Load
 use Rattle.ms_grammar.specs.declared.line.RawTerm.{RawTerm}
 use Rattle.ms_grammar.specs.declared.line.RawTerm.TheVariants.{Br, CondBr, Ret, Unreachable}
 use Rattle.ms_names.specs.Shape.{LabelLine, FuncLines, inst_line, label_lines, block_lines}
-use Rattle.ms_names.specs.Made.{Made, is_same_name, named_from, name_of_made}
+use Rattle.ms_names.specs.Made.{Made}
 use Rattle.ms_names.specs.Used.{Names, arg_value, entry_value, entry_block, values_of, term_values, local_of, global_of, inst_blocks, term_blocks, callee_of, inst_names, term_names}
-use Rattle.ms_names.specs.Faults.{IsNotIn, UsesUnknown, local, block, global, StandsAt, inst, term}
+use Rattle.ms_names.specs.Faults.{IsNotIn, NamesFirst, UsesUnknown, local, block, global, StandsAt, inst, term}
 use Rattle.ms_names.specs.Places.{is_word_there, is_name_there}
 use Rattle.ms_names.specs.Uses.{Known, lacks_symbol, lacks_block, lacks_value, lacks_arg, lacks_entry, inst_lacks, term_lacks, line_lacks, least_lacking}
-use Rattle.ms_names.proofs.Members.{Among, among_in, in_among, among_append, among_left, among_right, among_map, map_among, among_flat, flat_among, among_filter, any_among, among_any, there_name, name_there, there_word, word_there_any, or_either, or_left, or_right, full_same}
+use Rattle.ms_names.proofs.Members.{Among, among_in, in_among, among_append, among_left, among_right, among_map, map_among, among_flat, flat_among, any_among, among_any, there_word, word_there_any, or_either, or_left, or_right}
 use Rattle.ms_names.proofs.Least.{IsLeastOf, least_change, least_along, FaultAlong, least_along_is}
 
 -- tests of a line by the lists of its names
@@ -106,15 +106,19 @@ not_is : (b : Bool) → (b ≡ true → ⊥) → not b ≡ true
 not_is true h = absurd (h refl)
 not_is false h = refl
 
--- each name of the list is one that is found
-abbrev pub AreFull : List Name → Type 0
-AreFull names = (q : Name) → Among names q → is_same_name q q ≡ true
+-- the names that are there are those by which a first thing of this kind is found
+abbrev pub Finds : List Made → Bool → List Name → Type 0
+Finds named b names = (q : Name) → (is_name_there names q ≡ true → NamesFirst named b q) × (NamesFirst named b q → is_name_there names q ≡ true)
 
-missing_not : (names : List Name) → AreFull names → (q : Name) → not (is_name_there names q) ≡ true → IsNotIn names q
-missing_not names full q e = λ h. let m = in_among names q h in not_true (is_name_there names q) e (name_there names q (full q m) m)
+pub record KnowsFirst (k : Known) (named : List Made) : Type 0 where
+  pub locals : Finds named false k.locals
+  pub blocks : Finds named true k.blocks
 
-not_missing : (names : List Name) (q : Name) → IsNotIn names q → not (is_name_there names q) ≡ true
-not_missing names q h = not_is (is_name_there names q) (λ t. h (among_in names q (there_name names q t)))
+missing_not : (named : List Made) (b : Bool) (names : List Name) → Finds named b names → (q : Name) → not (is_name_there names q) ≡ true → NamesFirst named b q → ⊥
+missing_not named b names finds q e h = not_true (is_name_there names q) e ((finds q).1 h)
+
+not_missing : (named : List Made) (b : Bool) (names : List Name) → Finds named b names → (q : Name) → (NamesFirst named b q → ⊥) → not (is_name_there names q) ≡ true
+not_missing named b names finds q h = not_is (is_name_there names q) (λ t. h ((finds q).0 t))
 
 lost_not : (words : List (List ℕ)) (q : List ℕ) → not (is_word_there words q) ≡ true → IsNotIn words q
 lost_not words q e = λ h. not_true (is_word_there words q) e (word_there_any words q (in_among words q h))
@@ -123,22 +127,22 @@ not_lost : (words : List (List ℕ)) (q : List ℕ) → IsNotIn words q → not 
 not_lost words q h = not_is (is_word_there words q) (λ t. h (among_in words q (there_word words q t)))
 
 -- a value that lacks its name
-value_lacks : (k : Known) (used : Names) → AreFull k.locals → (v : RawVal) → lacks_value k v ≡ true → ((n : Name) → Among (local_of v) n → Among used.locals n)
-    → ((w : List ℕ) → Among (global_of v) w → Among used.symbols w) → UsesUnknown k.locals k.blocks k.symbols used
-value_lacks k used full (Num ty n) e locals symbols = cc
-value_lacks k used full (Local n) e locals symbols = local n (among_in used.locals n (locals n (inl refl))) (missing_not k.locals full n e)
-value_lacks k used full (Global n) e locals symbols = global (name_text n) (among_in used.symbols (name_text n) (symbols (name_text n) (inl refl))) (lost_not k.symbols (name_text n) e)
+value_lacks : (k : Known) (named : List Made) (used : Names) → KnowsFirst k named → (v : RawVal) → lacks_value k v ≡ true → ((n : Name) → Among (local_of v) n → Among used.locals n)
+    → ((w : List ℕ) → Among (global_of v) w → Among used.symbols w) → UsesUnknown named k.symbols used
+value_lacks k named used knows (Num ty n) e locals symbols = cc
+value_lacks k named used knows (Local n) e locals symbols = local n (among_in used.locals n (locals n (inl refl))) (missing_not named false k.locals knows.locals n e)
+value_lacks k named used knows (Global n) e locals symbols = global (name_text n) (among_in used.symbols (name_text n) (symbols (name_text n) (inl refl))) (lost_not k.symbols (name_text n) e)
 
-lists_unknown : (k : Known) → AreFull k.locals → AreFull k.blocks → (vals : List RawVal) (blocks : List Name) (callees : List (List ℕ)) → lists_lack k vals blocks callees ≡ true
-    → UsesUnknown k.locals k.blocks k.symbols (record { locals = flat_map local_of vals; blocks = blocks; symbols = flat_map global_of vals ++ callees })
-lists_unknown k full_locals full_blocks vals blocks callees e =
+lists_unknown : (k : Known) (named : List Made) → KnowsFirst k named → (vals : List RawVal) (blocks : List Name) (callees : List (List ℕ)) → lists_lack k vals blocks callees ≡ true
+    → UsesUnknown named k.symbols (record { locals = flat_map local_of vals; blocks = blocks; symbols = flat_map global_of vals ++ callees })
+lists_unknown k named knows vals blocks callees e =
     let used : Names = record { locals = flat_map local_of vals; blocks = blocks; symbols = flat_map global_of vals ++ callees } in
     elim (or_either (list_any (lacks_value k) vals) (list_any (lacks_block k) blocks || list_any (lost k) callees) e) [
       | inl v ↦
           let r = any_among (lacks_value k) vals v in
-          value_lacks k used full_locals r.0 r.2 (λ n h. flat_among local_of vals r.0 n r.1 h) (λ w h. among_left (flat_map global_of vals) callees w (flat_among global_of vals r.0 w r.1 h))
+          value_lacks k named used knows r.0 r.2 (λ n h. flat_among local_of vals r.0 n r.1 h) (λ w h. among_left (flat_map global_of vals) callees w (flat_among global_of vals r.0 w r.1 h))
       | inr o ↦ elim (or_either (list_any (lacks_block k) blocks) (list_any (lost k) callees) o) [
-        | inl b ↦ let r = any_among (lacks_block k) blocks b in block r.0 (among_in blocks r.0 r.1) (missing_not k.blocks full_blocks r.0 r.2)
+        | inl b ↦ let r = any_among (lacks_block k) blocks b in block r.0 (among_in blocks r.0 r.1) (missing_not named true k.blocks knows.blocks r.0 r.2)
         | inr c ↦ let r = any_among (lost k) callees c in global r.0 (among_in used.symbols r.0 (among_right (flat_map global_of vals) callees r.0 r.1)) (lost_not k.symbols r.0 r.2)
       ]
     ]
@@ -153,13 +157,13 @@ global_value k (Num ty x) w h e = absurd h
 global_value k (Local x) w h e = absurd h
 global_value k (Global x) w h e = elim h [ inl s ↦ ap (λ y. not (is_word_there k.symbols y)) s ∙ e | inr never ↦ absurd never ]
 
-unknown_lists : (k : Known) (vals : List RawVal) (blocks : List Name) (callees : List (List ℕ))
-    → UsesUnknown k.locals k.blocks k.symbols (record { locals = flat_map local_of vals; blocks = blocks; symbols = flat_map global_of vals ++ callees }) → lists_lack k vals blocks callees ≡ true
-unknown_lists k vals blocks callees h = elim h [
+unknown_lists : (k : Known) (named : List Made) → KnowsFirst k named → (vals : List RawVal) (blocks : List Name) (callees : List (List ℕ))
+    → UsesUnknown named k.symbols (record { locals = flat_map local_of vals; blocks = blocks; symbols = flat_map global_of vals ++ callees }) → lists_lack k vals blocks callees ≡ true
+unknown_lists k named knows vals blocks callees h = elim h [
   | local n there out ↦
       let r = among_flat local_of vals n (in_among (flat_map local_of vals) n there) in
-      or_left _ _ (among_any (lacks_value k) vals r.0 r.1 (local_value k r.0 n r.2 (not_missing k.locals n out)))
-  | block n there out ↦ or_right (list_any (lacks_value k) vals) _ (or_left _ _ (among_any (lacks_block k) blocks n (in_among blocks n there) (not_missing k.blocks n out)))
+      or_left _ _ (among_any (lacks_value k) vals r.0 r.1 (local_value k r.0 n r.2 (not_missing named false k.locals knows.locals n out)))
+  | block n there out ↦ or_right (list_any (lacks_value k) vals) _ (or_left _ _ (among_any (lacks_block k) blocks n (in_among blocks n there) (not_missing named true k.blocks knows.blocks n out)))
   | global w there out ↦ elim (among_append (flat_map global_of vals) callees w (in_among (flat_map global_of vals ++ callees) w there)) [
     | inl v ↦ let r = among_flat global_of vals w v in or_left _ _ (among_any (lacks_value k) vals r.0 r.1 (global_value k r.0 w r.2 (not_lost k.symbols w out)))
     | inr c ↦ or_right (list_any (lacks_value k) vals) _ (or_right (list_any (lacks_block k) blocks) _ (among_any (lost k) callees w c (not_lost k.symbols w out)))
@@ -176,21 +180,21 @@ term_names_long t = record { locals = flat_map local_of (term_values t); blocks 
 term_names_are : (t : RawTerm) → term_names t ≡ term_names_long t
 term_names_are t = ap (λ ws. let r : Names = record { locals = flat_map local_of (term_values t); blocks = term_blocks t; symbols = ws } in r) (append_none (flat_map global_of (term_values t)))
 
-inst_unknown : (k : Known) → AreFull k.locals → AreFull k.blocks → (i : RawInst) → inst_lacks k i ≡ true → UsesUnknown k.locals k.blocks k.symbols (inst_names i)
-inst_unknown k fl fb i e = lists_unknown k fl fb (values_of i) (inst_blocks i) (callee_of i) (sym (inst_lists k i) ∙ e)
+inst_unknown : (k : Known) (named : List Made) → KnowsFirst k named → (i : RawInst) → inst_lacks k i ≡ true → UsesUnknown named k.symbols (inst_names i)
+inst_unknown k named knows i e = lists_unknown k named knows (values_of i) (inst_blocks i) (callee_of i) (sym (inst_lists k i) ∙ e)
 
-term_unknown : (k : Known) → AreFull k.locals → AreFull k.blocks → (t : RawTerm) → term_lacks k t ≡ true → UsesUnknown k.locals k.blocks k.symbols (term_names t)
-term_unknown k fl fb t e =
-    let P : Names → Type 0 = λ used. UsesUnknown k.locals k.blocks k.symbols used in
-    subst P (sym (term_names_are t)) (lists_unknown k fl fb (term_values t) (term_blocks t) [] (sym (term_lists k t) ∙ e))
+term_unknown : (k : Known) (named : List Made) → KnowsFirst k named → (t : RawTerm) → term_lacks k t ≡ true → UsesUnknown named k.symbols (term_names t)
+term_unknown k named knows t e =
+    let P : Names → Type 0 = λ used. UsesUnknown named k.symbols used in
+    subst P (sym (term_names_are t)) (lists_unknown k named knows (term_values t) (term_blocks t) [] (sym (term_lists k t) ∙ e))
 
-unknown_inst : (k : Known) (i : RawInst) → UsesUnknown k.locals k.blocks k.symbols (inst_names i) → inst_lacks k i ≡ true
-unknown_inst k i h = inst_lists k i ∙ unknown_lists k (values_of i) (inst_blocks i) (callee_of i) h
+unknown_inst : (k : Known) (named : List Made) → KnowsFirst k named → (i : RawInst) → UsesUnknown named k.symbols (inst_names i) → inst_lacks k i ≡ true
+unknown_inst k named knows i h = inst_lists k i ∙ unknown_lists k named knows (values_of i) (inst_blocks i) (callee_of i) h
 
-unknown_term : (k : Known) (t : RawTerm) → UsesUnknown k.locals k.blocks k.symbols (term_names t) → term_lacks k t ≡ true
-unknown_term k t h =
-    let P : Names → Type 0 = λ used. UsesUnknown k.locals k.blocks k.symbols used in
-    term_lists k t ∙ unknown_lists k (term_values t) (term_blocks t) [] (subst P (term_names_are t) h)
+unknown_term : (k : Known) (named : List Made) → KnowsFirst k named → (t : RawTerm) → UsesUnknown named k.symbols (term_names t) → term_lacks k t ≡ true
+unknown_term k named knows t h =
+    let P : Names → Type 0 = λ used. UsesUnknown named k.symbols used in
+    term_lists k t ∙ unknown_lists k named knows (term_values t) (term_blocks t) [] (subst P (term_names_are t) h)
 
 -- a line of a body that lacks a name
 pub record IsLacking (k : Known) (lines : List (ℕ × Line)) (n : ℕ) : Type 0 where
@@ -245,9 +249,9 @@ in_labels k (Some x) l h e = elim h [
   | inr never ↦ absurd never
 ]
 
-pub lacking_stands : (k : Known) → AreFull k.locals → AreFull k.blocks → (f : FuncLines) (n : ℕ) → IsLacking k (flat_map block_lines f.blocks) n
-    → (used : Names) × StandsAt f n used × UsesUnknown k.locals k.blocks k.symbols used
-lacking_stands k fl fb f n h =
+pub lacking_stands : (k : Known) (named : List Made) → KnowsFirst k named → (f : FuncLines) (n : ℕ) → IsLacking k (flat_map block_lines f.blocks) n
+    → (used : Names) × StandsAt f n used × UsesUnknown named k.symbols used
+lacking_stands k named knows f n h =
     let b = among_flat block_lines f.blocks h.l h.among in
     let end : ℕ × Line = (b.0.end.line, said.Term b.0.end.term) in
     elim (among_append (label_lines b.0.label ++ map inst_line b.0.insts) (end ∷ []) h.l b.2) [
@@ -256,50 +260,35 @@ lacking_stands k fl fb f n h =
         | inr insts ↦
             let x = among_map inst_line b.0.insts h.l insts in
             let lacks : inst_lacks k x.0.inst ≡ true = ap (λ (y : ℕ × Line). line_lacks k y.1) x.2 ∙ h.lacks in
-            (inst_names x.0.inst, inst b.0 x.0 (among_in f.blocks b.0 b.1) (among_in b.0.insts x.0 x.1) (ap (λ (y : ℕ × Line). y.0) x.2 ∙ h.on) refl, inst_unknown k fl fb x.0.inst lacks)
+            (inst_names x.0.inst, inst b.0 x.0 (among_in f.blocks b.0 b.1) (among_in b.0.insts x.0 x.1) (ap (λ (y : ℕ × Line). y.0) x.2 ∙ h.on) refl, inst_unknown k named knows x.0.inst lacks)
       ]
       | inr last ↦ elim last [
         | inl s ↦
             let lacks : term_lacks k b.0.end.term ≡ true = ap (λ (y : ℕ × Line). line_lacks k y.1) s ∙ h.lacks in
-            (term_names b.0.end.term, term b.0 (among_in f.blocks b.0 b.1) (ap (λ (y : ℕ × Line). y.0) s ∙ h.on) refl, term_unknown k fl fb b.0.end.term lacks)
+            (term_names b.0.end.term, term b.0 (among_in f.blocks b.0 b.1) (ap (λ (y : ℕ × Line). y.0) s ∙ h.on) refl, term_unknown k named knows b.0.end.term lacks)
         | inr never ↦ absurd never
       ]
     ]
 
-pub stands_lacking : (k : Known) (f : FuncLines) (n : ℕ) (used : Names) → StandsAt f n used → UsesUnknown k.locals k.blocks k.symbols used → IsLacking k (flat_map block_lines f.blocks) n
-stands_lacking k f n used s u = elim s [
+pub stands_lacking : (k : Known) (named : List Made) → KnowsFirst k named → (f : FuncLines) (n : ℕ) (used : Names) → StandsAt f n used → UsesUnknown named k.symbols used → IsLacking k (flat_map block_lines f.blocks) n
+stands_lacking k named knows f n used s u = elim s [
   | inst b x inside there on is ↦
-      let P : Names → Type 0 = λ w. UsesUnknown k.locals k.blocks k.symbols w in
+      let P : Names → Type 0 = λ w. UsesUnknown named k.symbols w in
       record {
         l = inst_line x;
         among = flat_among block_lines f.blocks b (inst_line x) (in_among f.blocks b inside)
             (among_left (label_lines b.label ++ map inst_line b.insts) ((b.end.line, said.Term b.end.term) ∷ []) (inst_line x)
             (among_right (label_lines b.label) (map inst_line b.insts) (inst_line x) (map_among inst_line b.insts x (in_among b.insts x there))));
-        lacks = unknown_inst k x.inst (subst P is u);
+        lacks = unknown_inst k named knows x.inst (subst P is u);
         on = on;
       }
   | term b inside on is ↦
-      let P : Names → Type 0 = λ w. UsesUnknown k.locals k.blocks k.symbols w in
+      let P : Names → Type 0 = λ w. UsesUnknown named k.symbols w in
       let end : ℕ × Line = (b.end.line, said.Term b.end.term) in
       record {
         l = end;
         among = flat_among block_lines f.blocks b end (in_among f.blocks b inside) (among_right (label_lines b.label ++ map inst_line b.insts) (end ∷ []) end (inl refl));
-        lacks = unknown_term k b.end.term (subst P is u);
+        lacks = unknown_term k named knows b.end.term (subst P is u);
         on = on;
       }
 ]
-
-full_in : (ms : List Made) (next : ℕ) (x : Made) → Among (named_from next ms) x → is_same_name x.name x.name ≡ true
-full_in [] next x h = absurd h
-full_in (m ∷ ms) next x h = elim h [
-  | inl s ↦ let P : Made → Type 0 = λ y. is_same_name y.name y.name ≡ true in subst P s (full_same next m.name)
-  | inr t ↦ full_in ms _ x t
-]
-
--- each full name is one that is found
-pub named_full : (p : Made → Bool) (ms : List Made) (next : ℕ) → AreFull (map name_of_made (filter p (named_from next ms)))
-named_full p ms next q h =
-    let r = among_map name_of_made (filter p (named_from next ms)) q h in
-    let m = among_filter p (named_from next ms) r.0 r.1 in
-    let P : Name → Type 0 = λ n. is_same_name n n ≡ true in
-    subst P r.2 (full_in ms next r.0 m.0)

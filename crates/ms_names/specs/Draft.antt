@@ -47,13 +47,21 @@ is_small next (Word w) = false
 is_small next (Number n) = nat_lt n next
 is_small next Absent = false
 
+-- whether a local or block has the name
+abbrev pub is_taken : Register → Name → Bool
+is_taken r name = is_name_there r.locals name || is_name_there r.blocks name
+
+-- the name by which a thing is found: none where an earlier thing has it
+abbrev pub found_as : Bool → Name → Name
+found_as taken name = if taken then Absent else name
+
 -- the register of a function's names after a further thing
 abbrev pub with_full : Register → ℕ → Bool → Name → Register
 with_full r n is_block full = record {
-  locals = (if is_block then r.locals else r.locals ++ full ∷ []);
-  blocks = (if is_block then r.blocks ++ full ∷ [] else r.blocks);
+  locals = (if is_block then r.locals else r.locals ++ found_as (is_taken r full) full ∷ []);
+  blocks = (if is_block then r.blocks ++ found_as (is_taken r full) full ∷ [] else r.blocks);
   next = r.next;
-  least = with_fault r.least (is_name_there r.locals full || is_name_there r.blocks full) n;
+  least = with_fault r.least (is_taken r full) n;
 }
 
 abbrev pub register_with : Register → Made → Register

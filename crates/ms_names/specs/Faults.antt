@@ -6,7 +6,7 @@ use Rattle.ms_ir.specs.declared.names.Name.TheVariants.{Number}
 use Rattle.ms_grammar.specs.declared.line.Line.{Line}
 use Rattle.ms_grammar.specs.declared.line.Line.TheVariants as said
 use Rattle.ms_names.specs.Shape.{InstLine, BlockLines, FuncLines, ItemLines, plain, body}
-use Rattle.ms_names.specs.Made.{Made, made_in, named_in, free_after, locals_of, blocks_of}
+use Rattle.ms_names.specs.Made.{Made, made_in, named_in, free_after}
 use Rattle.ms_names.specs.Used.{Names, inst_names, term_names}
 
 -- a thing stands at a place of a list
@@ -81,11 +81,20 @@ pub record IsMadeAgain (named : List Made) (n : ℕ) : Type 0 where
   pub same : one.name ≡ other.name
   pub on : other.line ≡ n
 
--- a used local, block, function or global is made nowhere
-pub data UsesUnknown (locals blocks : List Name) (known : List (List ℕ)) (used : Names) : Type 0 where
-  local : (name : Name) → IsIn used.locals name → IsNotIn locals name → UsesUnknown locals blocks known used
-  block : (name : Name) → IsIn used.blocks name → IsNotIn blocks name → UsesUnknown locals blocks known used
-  global : (name : List ℕ) → IsIn used.symbols name → IsNotIn known name → UsesUnknown locals blocks known used
+-- what a name names is the first thing that is made with it: here a block, or else a local
+pub record NamesFirst (named : List Made) (is_block : Bool) (name : Name) : Type 0 where
+  pub at : ℕ
+  pub thing : Made
+  pub found : slice_get named at ≡ Some thing
+  pub kind : thing.is_block ≡ is_block
+  pub same : thing.name ≡ name
+  pub first : (before : ℕ) (other : Made) → before < at → slice_get named before ≡ Some other → other.name ≡ name → ⊥
+
+-- a used name of a local names none, one of a block names none, or a used function or global is made nowhere
+pub data UsesUnknown (named : List Made) (known : List (List ℕ)) (used : Names) : Type 0 where
+  local : (name : Name) → IsIn used.locals name → (NamesFirst named false name → ⊥) → UsesUnknown named known used
+  block : (name : Name) → IsIn used.blocks name → (NamesFirst named true name → ⊥) → UsesUnknown named known used
+  global : (name : List ℕ) → IsIn used.symbols name → IsNotIn known name → UsesUnknown named known used
 
 -- a line of the function, with the names that it uses
 pub data StandsAt (f : FuncLines) (n : ℕ) (used : Names) : Type 0 where
@@ -96,7 +105,7 @@ pub data StandsAt (f : FuncLines) (n : ℕ) (used : Names) : Type 0 where
 pub data HasFaultIn (known : List (List ℕ)) (f : FuncLines) (n : ℕ) : Type 0 where
   small : IsTooSmall (made_in f) n → HasFaultIn known f n
   again : IsMadeAgain (named_in f) n → HasFaultIn known f n
-  unknown : (used : Names) → StandsAt f n used → UsesUnknown (locals_of f) (blocks_of f) known used → HasFaultIn known f n
+  unknown : (used : Names) → StandsAt f n used → UsesUnknown (named_in f) known used → HasFaultIn known f n
 
 -- a line of the module has one
 pub data HasNameFault (items : List ItemLines) (n : ℕ) : Type 0 where

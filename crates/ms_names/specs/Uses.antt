@@ -1,4 +1,4 @@
--- Whether a line uses a name that is made nowhere.
+-- Whether a line uses a name that is not there.
 use Rattle.std.specs.Prelude.{ℕ, ◌||◌, Bool, false, not, List, [], ◌∷◌, Option, Some, None}
 use Rattle.std.specs.List.{list_any}
 use Rattle.ms_ir.specs.declared.names.Name.{Name}

@@ -1,8 +1,8 @@
 //! The names of a module's lines: what they make, and the least line with a fault in them.
 //!
 //! The names of functions and globals are one table for the module ([`symbols_of`]), those of locals and blocks one for each function
-//! ([`register_of`]). A line has a fault where it makes a name again, writes a number that is less than the next free one, or uses a
-//! name that is made nowhere ([`least_in_functions`]).
+//! ([`register_of`]), where a name that is made again names what is made first. A line has a fault where it makes a name again, writes a
+//! number that is less than the next free one, or uses a name that names nothing of the wanted kind ([`least_in_functions`]).
 #![tactic(auto)]
 
 mod faults;

@@ -10,7 +10,7 @@ use ms_ir::{Name, NoMemory, Param};
 use std::alloc::Global;
 
 /// The names that a function's locals and blocks get, in the order of the text, the next free number, and the least line that makes a name
-/// again or writes a number that is too small.
+/// again or writes a number that is too small. A name names what is made first with it: what is made again has none.
 #[derive(Drop)]
 pub struct Register<'a> {
     pub locals: NameTable<'a>,
@@ -63,9 +63,9 @@ impl<'a> Register<'a> {
         let again = self.locals.find_word(word).is_some() || self.blocks.find_word(word).is_some();
         self.least = with_fault(self.least, again, n);
         if is_block {
-            self.blocks.add_word(alloc, word)?;
+            self.blocks.note_word(alloc, word, again)?;
         } else {
-            self.locals.add_word(alloc, word)?;
+            self.locals.note_word(alloc, word, again)?;
         }
         Ok(())
     }
@@ -77,9 +77,9 @@ impl<'a> Register<'a> {
             || self.blocks.find_number(number).is_some();
         self.least = with_fault(self.least, again, n);
         if is_block {
-            self.blocks.add_number(number)?;
+            self.blocks.note_number(number, again)?;
         } else {
-            self.locals.add_number(number)?;
+            self.locals.note_number(number, again)?;
         }
         Ok(())
     }

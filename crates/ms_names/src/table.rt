@@ -3,6 +3,7 @@ ghost use Rattle.std.specs.Prelude.{◌≡◌, ℕ, List, [], ◌∷◌, ◌++�
 ghost use Rattle.std.specs.Str.{bytes_eq};
 ghost use Rattle.std.specs.HashMap.{get, get_by};
 ghost use Rattle.ms_names.specs.Places.{word_place, name_place, or_here};
+ghost use Rattle.ms_names.specs.Draft.{found_as};
 
 use ms_ir::{Name, NoMemory, Text};
 use std::alloc::Global;
@@ -94,7 +95,7 @@ impl<'a> Words<'a> {
     }
 }
 
-/// The full names of things of one kind, in the order of their making. A name may stand more than once.
+/// The full names of things of one kind, in the order of their making. A thing that is not found by its name has none here.
 #[derive(Drop)]
 pub struct NameTable<'a> {
     words: HashMap<&'a [u8], u64>,
@@ -159,7 +160,15 @@ impl<'a> NameTable<'a> {
         }
     }
 
-    pub(crate) fn add_word(&mut self, alloc: Global, word: &'a [u8]) -> Result<(), NoMemory>
+    fn add_absent(&mut self) -> Result<(), NoMemory>
+        ensures ok { OnOk result (self.new ≡ self.old ++ Name.Absent ∷ []) }
+        ensures err { OnErr result (self.new ≡ self.old) }
+    {
+        self.names.push(Name::Absent)?;
+        Ok(())
+    }
+
+    fn add_word(&mut self, alloc: Global, word: &'a [u8]) -> Result<(), NoMemory>
         ensures ok { OnOk result (self.new ≡ self.old ++ Name.Word word.now ∷ []) }
         ensures err { OnErr result (self.new ≡ self.old) }
     {
@@ -171,7 +180,7 @@ impl<'a> NameTable<'a> {
         Ok(())
     }
 
-    pub(crate) fn add_number(&mut self, number: u32) -> Result<(), NoMemory>
+    fn add_number(&mut self, number: u32) -> Result<(), NoMemory>
         ensures ok { OnOk result (self.new ≡ self.old ++ Name.Number number ∷ []) }
         ensures err { OnErr result (self.new ≡ self.old) }
     {
@@ -180,5 +189,34 @@ impl<'a> NameTable<'a> {
         put_number(&mut self.numbers, number, place)?;
         self.names.push_reserved(Name::Number(number));
         Ok(())
+    }
+
+    // A further thing with this word for its name, which another thing has or not.
+    pub(crate) fn note_word(
+        &mut self,
+        alloc: Global,
+        word: &'a [u8],
+        taken: bool,
+    ) -> Result<(), NoMemory>
+        ensures ok { OnOk result (self.new ≡ self.old ++ found_as taken (Name.Word word.now) ∷ []) }
+        ensures err { OnErr result (self.new ≡ self.old) }
+    {
+        if taken {
+            self.add_absent()
+        } else {
+            self.add_word(alloc, word)
+        }
+    }
+
+    // The same with a number.
+    pub(crate) fn note_number(&mut self, number: u32, taken: bool) -> Result<(), NoMemory>
+        ensures ok { OnOk result (self.new ≡ self.old ++ found_as taken (Name.Number number) ∷ []) }
+        ensures err { OnErr result (self.new ≡ self.old) }
+    {
+        if taken {
+            self.add_absent()
+        } else {
+            self.add_number(number)
+        }
     }
 }

@@ -147,7 +147,7 @@ fn line_lacks(register: &Register, symbols: &Words, line: &Line) -> bool
     }
 }
 
-// The least line of these, and of one before, that uses a name that is made nowhere.
+// The least line of these, and of one before, that uses a name that is not there.
 fn least_lacking(
     register: &Register,
     symbols: &Words,

@@ -6,3 +6,4 @@ pub mod RoomFacts
 pub mod ResolveFacts
 pub use Rattle.ms_names.proofs.Members
 pub use Rattle.ms_names.proofs.PlaceLemmas
+pub use Rattle.ms_names.proofs.FirstFacts

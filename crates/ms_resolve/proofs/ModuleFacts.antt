@@ -1,5 +1,5 @@
 -- A module built line by line is the module of its items.
-use Rattle.std.proofs.Common.{◌≡◌, ◌∙◌, ℕ, suc, true, List, [], ◌∷◌, ◌++◌, Option, Some, None, length, map, refl, ap, append_assoc}
+use Rattle.std.proofs.Common.{◌≡◌, ◌∙◌, inl, inr, ℕ, suc, true, List, [], ◌∷◌, ◌++◌, Option, Some, None, length, map, refl, ap, append_assoc}
 use Rattle.std.specs.List.{flat_map}
 use Rattle.ms_ir.specs.declared.names.Name.{Name}
 use Rattle.ms_ir.specs.declared.module.Item.{Item}
@@ -23,8 +23,9 @@ use Rattle.ms_resolve.specs.Build as build
 use Rattle.ms_resolve.specs.Build.{Outer, scope_with, numbers_after, no_numbers, groups_with, groups_after, sig_by, sigs_with, sigs_after, with_kept, with_global_item, with_declared, with_defined, module_with, module_after, no_module, bodies_with, bodies_after, built}
 use Rattle.ms_names.specs.declared.register.Register.{Register}
 use Rattle.ms_resolve.specs.declared.resolved.BodyLines.{BodyLines}
+use Rattle.ms_names.proofs.Members.{Among}
 use Rattle.ms_names.proofs.Folds.{is_inner, items_after, IsFold, along_items}
-use Rattle.ms_names.proofs.Registers.{register_is, locals_all, blocks_all_named}
+use Rattle.ms_names.proofs.Registers.{IsMadeFault, register_is, locals_are, blocks_are}
 use Rattle.ms_names.proofs.SymbolFacts.{funcs_are, globals_are}
 use Rattle.ms_resolve.proofs.FuncFacts.{func_is}
 
@@ -214,8 +215,15 @@ joined o scope m items = parts m
     (m.names.funcs ++ flat_map func_names_in items)
     (m.names.globals ++ flat_map global_names_in items)
 
+-- no name of the function is made again, and no written number is too small
+abbrev pub IsMadeFine : FuncLines → Type 0
+IsMadeFine f = (n : ℕ) → IsMadeFault (made_in f) n → ⊥
+
+abbrev pub AreMadeFine : List ItemLines → Type 0
+AreMadeFine items = (f : FuncLines) → Among items (body f) → IsMadeFine f
+
 abbrev IsBodyBy : Outer → (FuncLines → Scope) → Type 0
-IsBodyBy o scope = (f : FuncLines) → HasBlocks f.blocks → build.body_in o f.line f.head (flat_map block_lines f.blocks) ≡ func_of (scope f) 0 f
+IsBodyBy o scope = (f : FuncLines) → HasBlocks f.blocks → IsMadeFine f → build.body_in o f.line f.head (flat_map block_lines f.blocks) ≡ func_of (scope f) 0 f
 
 joined_kept : (o : Outer) (scope : FuncLines → Scope) (m : ModuleState) (text : List ℕ) (items : List ItemLines) (n : ℕ) → joined o scope (with_kept m text) items ≡ joined o scope m (plain n (said.Kept text) ∷ items)
 joined_kept o scope m text items n =
@@ -267,18 +275,18 @@ joined_line o scope m n (said.Declare head) items e =
     joined_func o scope m head.name (sig_by o.groups head) None (item.Declared (record { 0 = length m.names.funcs }) (printed (said.Declare head))) items
 joined_line o scope m n _ items e = cc
 
-module_items : (o : Outer) (scope : FuncLines → Scope) → IsBodyBy o scope → (items : List ItemLines) → Each IsItem items → (m : ModuleState)
+module_items : (o : Outer) (scope : FuncLines → Scope) → IsBodyBy o scope → (items : List ItemLines) → Each IsItem items → AreMadeFine items → (m : ModuleState)
     → items_after (out_module o) (define_module o) m items ≡ joined o scope m items
-module_items o scope is [] h m =
+module_items o scope is [] h fine m =
     ap (λ xs. parts m xs m.sigs m.bodies m.names.funcs m.names.globals) (append_none m.items)
     ∙ ap (λ xs. parts m (m.items ++ []) xs m.bodies m.names.funcs m.names.globals) (append_none m.sigs)
     ∙ ap (λ xs. parts m (m.items ++ []) (m.sigs ++ []) xs m.names.funcs m.names.globals) (append_none m.bodies)
     ∙ ap (λ xs. parts m (m.items ++ []) (m.sigs ++ []) (m.bodies ++ []) xs m.names.globals) (append_none m.names.funcs)
     ∙ ap (λ xs. parts m (m.items ++ []) (m.sigs ++ []) (m.bodies ++ []) (m.names.funcs ++ []) xs) (append_none m.names.globals)
-module_items o scope is (plain n line ∷ items) h m = module_items o scope is items h.1 (out_module o m n line) ∙ joined_line o scope m n line items h.0
-module_items o scope is (body f ∷ items) h m =
-    ap (λ b. items_after (out_module o) (define_module o) (with_defined m f.head.name (sig_by o.groups f.head) b) items) (is f h.0)
-    ∙ module_items o scope is items h.1 (with_defined m f.head.name (sig_by o.groups f.head) (func_of (scope f) 0 f))
+module_items o scope is (plain n line ∷ items) h fine m = module_items o scope is items h.1 (λ f there. fine f (inr there)) (out_module o m n line) ∙ joined_line o scope m n line items h.0
+module_items o scope is (body f ∷ items) h fine m =
+    ap (λ b. items_after (out_module o) (define_module o) (with_defined m f.head.name (sig_by o.groups f.head) b) items) (is f h.0 (fine f (inl refl)))
+    ∙ module_items o scope is items h.1 (λ g there. fine g (inr there)) (with_defined m f.head.name (sig_by o.groups f.head) (func_of (scope f) 0 f))
     ∙ joined_func o scope m f.head.name (sig_by o.groups f.head) (Some (func_of (scope f) 0 f)) (item.Defined (record { 0 = length m.names.funcs })) items
 
 -- what a function's lines are read under
@@ -292,27 +300,27 @@ outer_of items = record {
 abbrev pub scope_by_items : List ItemLines → FuncLines → Scope
 scope_by_items items f = scope_of (effects_in (groups_of items)) keeps_in items f
 
-scope_is : (items : List ItemLines) → Each IsItem items → (f : FuncLines) → HasBlocks f.blocks
+scope_is : (items : List ItemLines) → Each IsItem items → (f : FuncLines) → HasBlocks f.blocks → IsMadeFine f
     → scope_with (register_in f.line f.head (flat_map block_lines f.blocks)) (outer_of items).symbols (outer_of items).sigs (groups_of items) ≡ scope_by_items items f
-scope_is items h f k =
+scope_is items h f k fine =
     let symbols = (outer_of items).symbols in
     let sigs = (outer_of items).sigs in
     let groups = groups_of items in
     let mk : List Name → List Name → List (List ℕ) → List (List ℕ) → Scope =
     λ locals blocks funcs globals. record { locals = locals; blocks = blocks; funcs = funcs; globals = globals; sigs = sigs; effects = effects_in groups; keeps = keeps_in } in
     ap (λ (r : Register). scope_with r symbols sigs groups) (register_is f k)
-    ∙ ap (λ ls. mk ls (register_all no_names (made_in f)).blocks symbols.funcs symbols.globals) (locals_all (made_in f) no_names)
-    ∙ ap (λ bs. mk (locals_of f) bs symbols.funcs symbols.globals) (blocks_all_named (made_in f) no_names)
+    ∙ ap (λ ls. mk ls (register_all no_names (made_in f)).blocks symbols.funcs symbols.globals) (locals_are f fine)
+    ∙ ap (λ bs. mk (locals_of f) bs symbols.funcs symbols.globals) (blocks_are f fine)
     ∙ ap (λ fs. mk (locals_of f) (blocks_of f) fs symbols.globals) (funcs_are items h)
     ∙ ap (λ gs. mk (locals_of f) (blocks_of f) (flat_map func_names_in items) gs) (globals_are items h)
 
 body_by : (items : List ItemLines) → Each IsItem items → IsBodyBy (outer_of items) (scope_by_items items)
-body_by items h f k =
-    ap (λ s. build.func_in s f.head (flat_map block_lines f.blocks)) (scope_is items h f k) ∙ func_is (scope_by_items items f) f
+body_by items h f k fine =
+    ap (λ s. build.func_in s f.head (flat_map block_lines f.blocks)) (scope_is items h f k fine) ∙ func_is (scope_by_items items f) f
 
-pub built_is : (items : List ItemLines) → Each IsItem items
+pub built_is : (items : List ItemLines) → Each IsItem items → AreMadeFine items
     → built (symbols_after no_symbols (flat_map item_lines items)) (flat_map item_lines items) ≡ module_of (effects_in (groups_of items)) keeps_in no_room items
-built_is items h =
+built_is items h fine =
     let lines = flat_map item_lines items in
     let symbols = symbols_after no_symbols lines in
     let with_groups : List (ℕ × List ℕ) → ModuleState = λ g. module_after (record { symbols = symbols; sigs = sigs_after g [] lines; groups = g }) (no_module g) lines in
@@ -320,4 +328,4 @@ built_is items h =
     let o = outer_of items in
     ap with_groups (groups_are items h) ∙ ap with_sigs (sigs_are (groups_of items) items h)
     ∙ along_items (module_after o) (module_with o) (out_module o) (define_module o) (module_fold o) items h (no_module (groups_of items))
-    ∙ module_items o (scope_by_items items) (body_by items h) items h (no_module (groups_of items))
+    ∙ module_items o (scope_by_items items) (body_by items h) items h fine (no_module (groups_of items))

@@ -1,11 +1,11 @@
 -- What is told of a draft, from what its lines give.
-use Rattle.std.proofs.Common.{◌≡◌, ◌∙◌, ℕ, List, [], Option, Some, None, sym, ap, subst}
+use Rattle.std.proofs.Common.{◌≡◌, ◌∙◌, inl, inr, ℕ, List, [], Option, Some, None, sym, ap, subst}
 use Rattle.std.specs.List.{flat_map}
 use Rattle.ms_ir.specs.Symbols.{AreDistinct}
 use Rattle.ms_attrs.proofs.MeaningLemmas.{some_effects, some_keeps}
 use Rattle.ms_grammar.specs.declared.line.Line.{Line}
-use Rattle.ms_names.specs.Shape.{ItemLines, item_lines, IsShape}
-use Rattle.ms_names.specs.Faults.{HasNameFault, symbol, symbols_of}
+use Rattle.ms_names.specs.Shape.{ItemLines, body, item_lines, IsShape}
+use Rattle.ms_names.specs.Faults.{small, again, HasNameFault, symbol, inside, symbols_of}
 use Rattle.ms_resolve.specs.Meaning.{effects_in, keeps_in}
 use Rattle.ms_resolve.specs.Scope.{Meaning}
 use Rattle.ms_resolve.specs.Module.{groups_of, func_names_in}
@@ -15,9 +15,10 @@ use Rattle.ms_names.specs.Uses.{least_after}
 use Rattle.ms_resolve.specs.Build.{AreNew, bare_module, bodies_after, built}
 use Rattle.ms_names.specs.declared.symbols.Symbols.{Symbols}
 use Rattle.ms_resolve.specs.declared.resolved.Resolved.{Resolved}
+use Rattle.ms_names.proofs.Members.{among_in}
 use Rattle.ms_names.proofs.Least.{IsLeastOf}
 use Rattle.ms_names.proofs.FaultFacts.{module_least, module_least_is}
-use Rattle.ms_resolve.proofs.ModuleFacts.{built_is, bodies_are}
+use Rattle.ms_resolve.proofs.ModuleFacts.{AreMadeFine, built_is, bodies_are}
 use Rattle.ms_resolve.proofs.NewFacts.{NoneAgain, are_new}
 use Rattle.ms_resolve.proofs.RoomFacts.{room_in, room_is}
 
@@ -34,6 +35,9 @@ fault_told draft items shape n h = record { items = items; shape = shape; fault 
 
 none_again : (items : List ItemLines) → IsLeastOf (HasNameFault items) None → NoneAgain (symbols_of items)
 none_again items h = λ n a. h n (symbol a)
+
+none_made : (items : List ItemLines) → IsLeastOf (HasNameFault items) None → AreMadeFine items
+none_made items h = λ f there n e. h n (inside f (among_in items (body f) there) (elim e [ inl s ↦ small s | inr a ↦ again a ]))
 
 pub new_told : (draft lines : List (ℕ × Line)) (items : List ItemLines) → IsShape draft items → lines ≡ draft → IsLeastOf (HasNameFault items) None → AreNew (record { funcs = []; globals = [] }) lines
 new_told draft lines items shape same h =
@@ -61,7 +65,7 @@ resolved_told draft lines items shape symbols r same are none is distinct number
       whole = record {
         meaning = meaning_of items;
         spare = room_in (flat_map func_names_in items) r.«module».bodies;
-        module_is = room_is (effects_in (groups_of items)) keeps_in items shape.each r.«module» distinct (built_so ∙ built_is items shape.each);
+        module_is = room_is (effects_in (groups_of items)) keeps_in items shape.each r.«module» distinct (built_so ∙ built_is items shape.each (none_made items none));
       };
       lines = numbers ∙ ap (λ ls. bodies_after [] ls) whole ∙ bodies_are items shape.each;
     }

@@ -49,8 +49,9 @@ fn build(alloc: Global, lines: &[(u32, Line)], symbols: &Symbols) -> Result<Reso
 /// The module of a draft's lines: each with its number, in their order, none of them empty.
 ///
 /// `Name` has the least line on which a function or global is made a second time in the module, or a local or label a second time in
-/// its function (locals and labels share their names); a local, label, global or function is used that is made nowhere, or made as
-/// something else; or a written number is less than the next free one. `Memory` says nothing of the lines.
+/// its function (locals and labels share their names, and one that is made again names what is made first); a local, label, global or
+/// function is used that is made nowhere, or whose name names something else; or a written number is less than the next free one. `Memory`
+/// says nothing of the lines.
 ///
 /// The time is linear in the length of the lines, but for looking names up and for the groups that attributes name.
 pub fn resolve(alloc: Global, draft: &Items<(u32, Line)>) -> Result<Resolved, NameFault>

@@ -30,7 +30,7 @@ fn expect(rt: &impl Abort, alloc: Global, rows: &[(&str, u32, u32)]) -> Result<(
     Ok(())
 }
 
-const NAMES: [(&str, u32, u32); 33] = [
+const NAMES: [(&str, u32, u32); 42] = [
     (
         "@g = global i8 0\n@h = global i8 0\n@g = global i8 0\n",
         3,
@@ -157,6 +157,51 @@ const NAMES: [(&str, u32, u32); 33] = [
     ),
     (
         "declare i8 @g()\ndefine i8 @f() {\n  call i8 @g()\n  ret i8 %0\n}\n",
+        3,
+        4,
+    ),
+    (
+        "define void @f(ptr %p) {\n  br label %p\np:\n  ret void\n}\n",
+        3,
+        2,
+    ),
+    (
+        "define void @f(ptr) {\n  br label %0\n0:\n  ret void\n}\n",
+        3,
+        2,
+    ),
+    (
+        "define void @f() {\n  %x = alloca i8\n  br label %x\nx:\n  ret void\n}\n",
+        3,
+        3,
+    ),
+    (
+        "define void @f(i8 %v) {\na:\n  br label %b\nb:\n  %x = phi i8 [ 0, %v ]\n  br label %v\nv:\n  ret void\n}\n",
+        3,
+        5,
+    ),
+    (
+        "define void @f() {\na:\n  %v = alloca i8\n  br label %b\nb:\n  %x = phi i8 [ 0, %a ], [ 1, %v ]\n  ret void\nv:\n  br label %b\n}\n",
+        3,
+        6,
+    ),
+    (
+        "define void @f() {\na:\n  store i8 0, ptr %a\n  %a = alloca i8\n  ret void\n}\n",
+        3,
+        3,
+    ),
+    (
+        "define i8 @f(i8 %v) {\na:\n  br label %d\nb:\n  ret i8 %d\nd:\n  %d = add i8 %v, 1\n  ret i8 %d\n}\n",
+        3,
+        5,
+    ),
+    (
+        "define void @f() {\n  br label %b\nb:\n  br label %b\nc:\n  %b = alloca i8\n  store i8 0, ptr %b\n  ret void\n}\n",
+        3,
+        6,
+    ),
+    (
+        "define void @f(ptr %p) {\n  store i8 0, ptr %p\n  ret void\np:\n  br label %p\n}\n",
         3,
         4,
     ),
