@@ -68,7 +68,7 @@ avoids g from A h m [] b c i = ⊎_elim (λ (e : b ≡ h). both_ways (marked A b
 avoids g from A h m (a ∷ p) b c i = ⊎_elim (λ (e : b ≡ h). both_ways (marked A b) c.0 (subst (λ x. marked A x ≡ true) (sym e) m)) (λ (j : Contains (a ∷ p) h). avoids g from A h m p a (c.1.1, c.1.2) j) (in_cons b (a ∷ p) h i)
 
 -- A block is cut off by h exactly where it is h, or the walk without h does not see it.
-cut_told : (g : List Run) → IsClosed g → (h b : ℕ) → h < length g → ((h ≡ b) ⊎ (is_seen (without g h) b ≡ false)) ↔ IsOnEveryPath g h b
+pub cut_told : (g : List Run) → IsClosed g → (h b : ℕ) → h < length g → ((h ≡ b) ⊎ (is_seen (without g h) b ≡ false)) ↔ IsOnEveryPath g h b
 cut_told g closed h b lt = (cuts, cut)
   where
     A : List Bool
