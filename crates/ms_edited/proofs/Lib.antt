@@ -1,0 +1,4 @@
+pub mod Places
+pub mod Shape
+pub mod Put
+pub mod Cut
