@@ -10,7 +10,9 @@ ghost use Rattle.ms_ir.specs.declared.inst.Edit.{Edit};
 /// ranges.
 pub fn edits_keep_sound()
     ensures { (f : FuncState) (e : Edit) → IsNumbered f → IsSoundFunc f → IsFittingEdit e → IsFaultless f e → IsSoundFunc (edited f e) }
-{}
+{
+    ms_paths::part_form();
+}
 
 /// Each number stands for one thing behind such an edit, as long as there are numbers left.
 pub fn edits_keep_numbers()

@@ -7,6 +7,7 @@ use Rattle.ms_ir.specs.declared.names.Ty.{Ty}
 use Rattle.ms_ir.specs.declared.names.Ty.TheVariants.{Ptr}
 use Rattle.ms_ir.specs.declared.inst.Val.{Val}
 use Rattle.ms_ir.specs.declared.inst.Val.TheVariants.{Num, Local, Global}
+use Rattle.ms_ir.specs.declared.inst.Entry.{Entry}
 use Rattle.ms_ir.specs.declared.inst.Inst.{Inst}
 use Rattle.ms_ir.specs.declared.inst.Inst.TheVariants.{Alloca, Gep, Step, Load, Store, Copy, Call, Bin, Cmp, Select, Cast, Phi}
 use Rattle.ms_ir.specs.declared.inst.Term.{Term}
@@ -14,6 +15,7 @@ use Rattle.ms_ir.specs.declared.inst.Edit.{Edit}
 use Rattle.ms_ir.specs.declared.inst.Edit.TheVariants.{Insert, Remove, Move, Unlink}
 use Rattle.ms_ir.specs.declared.faults.EditFault.{EditFault}
 use Rattle.ms_ir.specs.declared.faults.EditFault.TheVariants as fault
+use Rattle.ms_ir.specs.Inst.{has_result}
 use Rattle.ms_ir.specs.Func.{Placed, Block, FuncState, insts_at, no_block, put_at, cut_at, after_put}
 use Rattle.ms_ir.specs.Changes.{IsCondBr, cut_target, with_edge_cut}
 use Rattle.ms_ir.specs.Locals.{HasName, IsNoLocal, IsBlockNamed}
@@ -58,9 +60,25 @@ IsNoBlock f b = length f.blocks ≤ b
 abbrev pub NamesNoLocal : FuncState → Inst → Type 0
 NamesNoLocal f inst = (o : Operand) × (l : LocalNo) × Contains (operands_of inst) o × (o.val ≡ Local l) × IsNoLocal f l
 
+-- an entry of a phi is for a block that the function does not have
+abbrev pub NamesNoBlock : FuncState → Inst → Type 0
+NamesNoBlock f (Phi ty entries tail) = (e : Entry) × Contains entries e × IsNoBlock f e.from.0
+NamesNoBlock f (Alloca size head tail) = ⊥
+NamesNoBlock f (Gep base offset head index tail) = ⊥
+NamesNoBlock f (Step base offset terms head index tail) = ⊥
+NamesNoBlock f (Load ty ptr tail) = ⊥
+NamesNoBlock f (Store ty val ptr tail) = ⊥
+NamesNoBlock f (Copy to from len head tail) = ⊥
+NamesNoBlock f (Call callee ret args effects head tail) = ⊥
+NamesNoBlock f (Bin op flags ty a b tail) = ⊥
+NamesNoBlock f (Cmp pred flags ty a b tail) = ⊥
+NamesNoBlock f (Select cond ty a b tail) = ⊥
+NamesNoBlock f (Cast op flags from a to tail) = ⊥
+
 -- a block or local that the edit names is not there, or the name of its result is taken
 abbrev pub HasBadName : FuncState → Edit → Type 0
-HasBadName f (Insert block place inst name) = IsNoBlock f block.0 ⊎ NamesNoLocal f inst ⊎ IsNameTaken f name
+HasBadName f (Insert block place inst name) =
+    IsNoBlock f block.0 ⊎ NamesNoBlock f inst ⊎ NamesNoLocal f inst ⊎ ((has_result inst ≡ true) × IsNameTaken f name)
 HasBadName f (Remove block place) = IsNoBlock f block.0
 HasBadName f (Move block place to_block to_place) = IsNoBlock f block.0 ⊎ IsNoBlock f to_block.0
 HasBadName f (Unlink block slot) = IsNoBlock f block.0

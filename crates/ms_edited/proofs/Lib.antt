@@ -1,0 +1,9 @@
+pub mod Places
+pub mod Shape
+pub mod OnPaths
+pub mod Put
+pub mod Cut
+pub mod Faults
+pub mod Inserted
+pub mod Removed
+pub mod Moved
