@@ -11,7 +11,7 @@ use Rattle.ms_alias.specs.declared.loc.Root.{Root}
 use Rattle.ms_alias.specs.declared.loc.Root.TheVariants.{Local, Global}
 use Rattle.ms_alias.specs.declared.loc.Loc.{Loc}
 use Rattle.ms_alias.specs.Roots.{makes, IsTurning, IsTurnedBy}
-use Rattle.ms_alias.specs.Reaches.{Reach, Span, Called, IsReachOf}
+use Rattle.ms_alias.specs.Reaches.{Reach, Span, Called}
 use Rattle.ms_alias.specs.Meeting.{IsLocTurnedBy}
 use Rattle.ms_alias.specs.Tables.{AliasState, IsAliasOf, IsReachBy, is_turning}
 use Rattle.ms_alias.proofs.Makers.{maker_in_blocks, giver_from}

@@ -1,5 +1,4 @@
-use Rattle.std.proofs.Common.{◌≡◌, Some, ap, ◌∙◌}
-use Rattle.ms_alias.specs.Reaches.{Span}
+use Rattle.std.proofs.Common.{Some, ap, ◌∙◌}
 use Rattle.ms_alias.specs.Tables.{reach_in}
 use Rattle.ms_alias.proofs.Turns.{loc_turning_made, loc_turning_one, call_still, nothing_still}
 use Rattle.ms_alias.proofs.alias.Alias.turning_of.Goals as goal
