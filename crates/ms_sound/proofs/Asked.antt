@@ -1,5 +1,5 @@
 -- The location that is asked for: bytes at a root, or what the asking instruction itself reads, which are bytes at the root of its pointer.
-use Rattle.std.proofs.Common.{◌≡◌, ◌≢◌, ◌∙◌, ◌<◌, ◌≤◌, ℕ, ℤ, pos, ◌+ℤ◌, Bool, true, false, Some, None, refl, sym, ap, subst, ⊎_elim, arith}
+use Rattle.std.proofs.Common.{◌≡◌, ◌≢◌, ◌∙◌, ◌<◌, ◌≤◌, ℕ, ℤ, Bool, false, Some, refl, sym, ap, subst, ⊎_elim, arith}
 use Rattle.std.specs.Prelude.{◌↔◌, Contains, IsTrue, slice_get, map, max, ◌-ℤ◌}
 use Rattle.std.proofs.lemmas.Bool.{both_ways, cases_lt}
 use Rattle.ms_paths.specs.Flow.{Event, Of, IsAnswer, LiesOnEvery, and_one}
@@ -18,13 +18,12 @@ use Rattle.ms_alias.specs.declared.loc.Root.{Root}
 use Rattle.ms_alias.specs.declared.loc.Root.TheVariants.{Local, Global}
 use Rattle.ms_alias.specs.declared.loc.Loc.{Loc}
 use Rattle.ms_alias.specs.declared.loc.Loc.TheVariants.{Bytes, ReadBy}
-use Rattle.ms_alias.specs.Roots.{IsTurnedBy, HasRoot, pointer_of}
+use Rattle.ms_alias.specs.Roots.{IsTurnedBy}
 use Rattle.ms_alias.specs.Reaches.{Reach, Span, IsRead, IsReachOf}
 use Rattle.ms_alias.specs.Meeting.{IsLocTurnedBy, Meet, MeetInTurn, MayWrite, MayWriteInTurn}
 use Rattle.ms_alias.proofs.RootLemmas.{reach_read_once}
-use Rattle.ms_meaning.specs.Values.{Pointer, size_of}
-use Rattle.ms_meaning.specs.Memory.{HoldsByte}
-use Rattle.ms_meaning.specs.States.{Input, State, IsInput, operand_of}
+use Rattle.ms_meaning.specs.Values.{size_of}
+use Rattle.ms_meaning.specs.States.{Input, State, IsInput}
 use Rattle.ms_meaning.specs.Steps.{is_phi, phis_among}
 use Rattle.ms_meaning.specs.Traces.{IsOn, IsAboutTo, HoldsByteAt, ReadsByte, inst_of}
 use Rattle.ms_sound.specs.Bytes.{IsByteOf, IsSound}
@@ -103,10 +102,11 @@ module _ (f : FuncState) (numbered : IsNumbered f) (sound : IsSoundFunc f) (l : 
   own_bytes : (input : Input) → IsInput f input → (n : ℕ) (s : State) → IsOn f input n s → IsAboutTo f s b k → (o : ℕ) (z : ℤ) → IsByteOf f s (ReadBy number) o z → IsByteOf f s (Bytes (Local l) from len) o z
   own_bytes input fits n s on about o z (c, j, y, there, reads) =
       let r = reads_at f x.inst (Local l) from len read_here in
-      let h = r.reads s o z (subst (λ (p : Placed). ReadsByte s p.inst o z) (one_inst_at c j y there) reads) in
-      (h.0 -ℤ from,
-      root_followed f numbered sound (begins_once f sound) input fits n s on x (place_there f s b k x at.found r.no_phi about) r.no_phi r.at r.used r.span.base l from r.span.is_base r.span.has_root Ptr o h.0 h.1,
-      among_from h.0 from z len h.2)
+      let h = r.reads s o z (subst (λ (p : Placed). ReadsByte s p.inst o z) (one_inst_at c j y there) reads) in (
+        h.0 -ℤ from,
+        root_followed f numbered sound (begins_once f sound) input fits n s on x (place_there f s b k x at.found r.no_phi about) r.no_phi r.at r.used r.span.base l from r.span.is_base r.span.has_root Ptr o h.0 h.1,
+        among_from h.0 from z len h.2,
+      )
 
   turn_same : (j : ℕ) → MayWriteInTurn f j (ReadBy number) ↔ MayWriteInTurn f j (Bytes (Local l) from len)
   turn_same j = (

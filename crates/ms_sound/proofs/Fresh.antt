@@ -1,9 +1,9 @@
 -- In a sound function a pointer that is used follows its root: what getelementptrs make of another pointer is used before that one changes.
-use Rattle.std.proofs.Common.{◌≡◌, ◌∙◌, ◌<◌, ◌≤◌, ◌+◌, ◌⊎◌, ℕ, zero, suc, ℤ, pos, ◌+ℤ◌, Bool, true, false, cond, List, [], ◌∷◌, length, map, Option, Some, None, refl, sym, ap, subst, inl, inr, ⊎_elim, arith}
+use Rattle.std.proofs.Common.{◌≡◌, ◌∙◌, ◌<◌, ◌≤◌, ◌+◌, ◌⊎◌, ℕ, zero, suc, ℤ, ◌+ℤ◌, Bool, true, false, cond, List, [], ◌∷◌, map, Option, Some, None, refl, sym, ap, subst, inl, inr, ⊎_elim, arith}
 use Rattle.std.specs.Prelude.{Contains, slice_get, ◌-ℤ◌}
 use Rattle.std.proofs.lemmas.Bool.{both_ways, cases_eq, cases_lt, eq-eqb}
 use Rattle.std.proofs.lemmas.Int.{ints}
-use Rattle.ms_paths.specs.Flow.{HasEdge, IsPath, IsReached}
+use Rattle.ms_paths.specs.Flow.{HasEdge, IsReached}
 use Rattle.ms_ir.specs.declared.names.Ty.{Ty}
 use Rattle.ms_ir.specs.declared.names.Ty.TheVariants.{Ptr}
 use Rattle.ms_ir.specs.declared.names.LocalNo.{LocalNo}
@@ -34,9 +34,8 @@ use Rattle.ms_sound.proofs.Walks.{reached}
 use Rattle.ms_sound.proofs.Chains.{Ends, ends_root}
 use Rattle.ms_sound.proofs.Given.{MadeFrom, deed_from, operand_value, IsPhiGiven, phis_there, result_there}
 use Rattle.ms_sound.proofs.Operands.{IsToldVal, value_in, operand_told}
-use Rattle.ms_sound.proofs.Told.{Told}
 use Rattle.ms_sound.proofs.Always.{holds}
-use Rattle.ms_sound.proofs.Orders.{Passes, AllPass, pass_both, never_both, used_behind}
+use Rattle.ms_sound.proofs.Orders.{AllPass, pass_both, never_both, used_behind}
 
 -- The parts of a getelementptr.
 
@@ -251,10 +250,10 @@ module _ (f : FuncState) (numbered : IsNumbered f) (sound : IsSoundFunc f) where
             (λ (g : IsPhiGiven t t.block (insts_at f.blocks c) locals p).
             let first = base_first l p b k x st giver step base c g.0 g.1 (record { found = g.2; gives = g.4 }) in
             let behind : AllPass f b k c g.0 = λ q path.
-                ⊎_elim
-                (λ (h : (b ≡ c) × (k < phis_among (insts_at f.blocks c))). absurd (not_first h.0 h.1))
-                (λ (h : Contains q b). inr h)
-                (pass q path) in
+            ⊎_elim
+            (λ (h : (b ≡ c) × (k < phis_among (insts_at f.blocks c))). absurd (not_first h.0 h.1))
+            (λ (h : Contains q b). inr h)
+            (pass q path) in
             absurd (never_both f b k c g.0 behind first rc))
             (phis_there t t.block (insts_at f.blocks c) locals p phis))
             (λ (g : IsPhiGiven t t.block (insts_at f.blocks c) locals l).
@@ -342,7 +341,7 @@ module _ (f : FuncState) (numbered : IsNumbered f) (sound : IsSoundFunc f) where
     by_base (Local p) e rest =
         let value_p = now l p g.block g.place g.inst h.0 g.giver g.step e (behind g.block g.place g.inst g.giver) o at value in
         let behind_p : IsBehind s p = λ b k x giver.
-            pass_both f b k g.block g.place s.block s.place (base_first l p g.block g.place g.inst h.0 g.giver g.step e b k x giver) (behind g.block g.place g.inst g.giver) in
+        pass_both f b k g.block g.place s.block s.place (base_first l p g.block g.place g.inst h.0 g.giver g.step e b k x giver) (behind g.block g.place g.inst g.giver) in
         rest p (at -ℤ h.0.bytes) h.2 behind_p value_p (subst (λ q. Ends f m q (Local r) h.2) e h.3) ∙ ap (λ y. Some (Pointer o y)) (sum_of at h.0.bytes h.2 sum h.4)
 
   -- where an instruction uses a pointer, its root points so many bytes before it, as long as the instruction is no phi

@@ -1,7 +1,7 @@
 -- A run follows a path of its flow graph, and what that path brings took place last. Phis are among what counts: one takes place where its block is entered.
-use Rattle.std.proofs.Common.{◌≡◌, ◌<◌, ◌≤◌, ◌∙◌, ◌⊎◌, refl, sym, ap, subst, inl, inr, arith, ⊎_elim, ℕ, zero, suc, ◌+◌, Bool, true, false, cond, List, [], ◌∷◌, take, Option, Some, None}
+use Rattle.std.proofs.Common.{◌≡◌, ◌<◌, ◌≤◌, ◌∙◌, ◌⊎◌, refl, sym, ap, subst, inl, inr, arith, ⊎_elim, ℕ, zero, suc, ◌+◌, Bool, true, false, cond, List, [], ◌∷◌, take, Some, None}
 use Rattle.std.specs.Prelude.{Contains, slice_get, max}
-use Rattle.std.proofs.lemmas.Bool.{cases_Bool, cases_lt}
+use Rattle.std.proofs.lemmas.Bool.{cases_Bool}
 use Rattle.ms_paths.specs.Flow.{block_at, Event, Of, Phi, Entry, IsPath, HasEdge, after, entered, last_event, last_event_at}
 use Rattle.ms_ir.specs.Func.{Placed, FuncState, insts_at}
 use Rattle.ms_ir.specs.Graph.{graph_of, numbers}

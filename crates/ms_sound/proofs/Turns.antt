@@ -1,10 +1,9 @@
 -- Clobbers of a location whose root is made anew in a loop: while the root stays what it is, what is written through it has bytes of its own.
-use Rattle.std.proofs.Common.{◌≡◌, ◌≢◌, ◌∙◌, ◌<◌, ◌≤◌, ◌+◌, ◌⊎◌, ◌||◌, ℕ, zero, suc, ℤ, pos, ◌+ℤ◌, Bool, true, false, List, [], ◌∷◌, Option, Some, None, refl, sym, ap, subst, inl, inr, ⊎_elim, arith}
-use Rattle.std.specs.Prelude.{◌↔◌, Contains, IsTrue, slice_get, max, nat_eq, ◌-ℤ◌, ◌≤ℤ◌, ◌<ℤ◌}
+use Rattle.std.proofs.Common.{◌≡◌, ◌≢◌, ◌∙◌, ◌<◌, ◌≤◌, ℕ, zero, suc, ℤ, ◌+ℤ◌, Bool, true, false, List, [], ◌∷◌, Option, Some, None, refl, sym, ap, subst, inl, inr, ⊎_elim, arith}
+use Rattle.std.specs.Prelude.{◌↔◌, Contains, IsTrue, slice_get, max, nat_eq, ◌-ℤ◌}
 use Rattle.std.proofs.lemmas.Bool.{cases_Bool, cases_lt, both_ways, or_cases, or_left, or_right, eqb-true, eq-eqb}
-use Rattle.std.proofs.lemmas.Int.{ints}
-use Rattle.ms_paths.specs.Flow.{Block as Run, Event, Of, Phi as PhiAt, Entry, IsAnswer, IsPath, IsReached, IsOnEveryPath, LiesOnEvery, StandsAt, StandsInOnePlace, IsClosed, and_one, last_event_at, block_at}
-use Rattle.ms_paths.specs.Passed.{PassesAll, PassesFirst, is_of, is_start, either_of, either_start}
+use Rattle.ms_paths.specs.Flow.{Block as Run, Event, Of, Phi as PhiAt, Entry, IsAnswer, IsPath, IsReached, IsOnEveryPath, LiesOnEvery, StandsAt, StandsInOnePlace, IsClosed, and_one, last_event_at}
+use Rattle.ms_paths.specs.Passed.{PassesAll, PassesFirst, is_of, either_of, either_start}
 use Rattle.ms_ir.specs.declared.names.Ty.TheVariants.{Ptr}
 use Rattle.ms_ir.specs.declared.names.LocalNo.{LocalNo}
 use Rattle.ms_ir.specs.declared.inst.Inst.{Inst}
@@ -14,19 +13,18 @@ use Rattle.ms_ir.specs.Graph.{graph_of, numbers}
 use Rattle.ms_ir.specs.Locals.{IsNumbered, IsGiver}
 use Rattle.ms_ir.specs.SoundFunc.{IsSoundFunc}
 use Rattle.ms_ir.proofs.FuncLemmas.{block_there}
-use Rattle.ms_alias.specs.declared.loc.Root.{Root}
-use Rattle.ms_alias.specs.declared.loc.Root.TheVariants.{Local, Global}
+use Rattle.ms_alias.specs.declared.loc.Root.TheVariants.{Local}
 use Rattle.ms_alias.specs.declared.loc.Loc.{Loc}
 use Rattle.ms_alias.specs.declared.loc.Loc.TheVariants.{Bytes}
-use Rattle.ms_alias.specs.Roots.{makes_pointer, makes, IsTurnedBy}
-use Rattle.ms_alias.specs.Reaches.{Reach, Span, Called, IsWritten, IsReachOf}
+use Rattle.ms_alias.specs.Roots.{makes_pointer, IsTurnedBy}
+use Rattle.ms_alias.specs.Reaches.{Reach, Span, Called, IsWritten}
 use Rattle.ms_alias.specs.Meeting.{ShareByte, MayWrite, AreOneRoot, MeetInTurn, MayWriteInTurn}
 use Rattle.ms_alias.proofs.Makers.{giver_from, pointer_from}
-use Rattle.ms_meaning.specs.Values.{Value, Pointer}
-use Rattle.ms_meaning.specs.Memory.{HoldsByte, Written, spread}
+use Rattle.ms_meaning.specs.Values.{Pointer}
+use Rattle.ms_meaning.specs.Memory.{HoldsByte, Written}
 use Rattle.ms_meaning.specs.States.{Input, State, IsInput, operand_of}
-use Rattle.ms_meaning.specs.Steps.{Doing, Fails, doing, is_phi, phis_among, with_result}
-use Rattle.ms_meaning.specs.Traces.{IsOn, inst_of, written_of, written_at, written_by, Executes, Enters, Occurs, OccursLast, IsAboutTo, CountsNoPhi}
+use Rattle.ms_meaning.specs.Steps.{Doing, doing, is_phi, phis_among, with_result}
+use Rattle.ms_meaning.specs.Traces.{IsOn, inst_of, written_of, written_at, written_by, Executes, Occurs, OccursLast, IsAboutTo}
 use Rattle.ms_meaning.proofs.Goes.{Goes, ran, left, goes, before, one_state}
 use Rattle.ms_meaning.proofs.LastEvents.{Counts, counts_at, events_at}
 use Rattle.ms_meaning.proofs.Phis.{among_phis}
@@ -43,7 +41,7 @@ use Rattle.ms_sound.proofs.Begins.{begins_once}
 use Rattle.ms_sound.proofs.Clobbers.{phi_writes}
 use Rattle.ms_sound.proofs.Orders.{one_found, AllPass, never_both, lies_pass}
 use Rattle.ms_sound.proofs.Fresh.{one_given, root_followed, phi_among}
-use Rattle.ms_sound.proofs.Lasts.{EntersPhi, TakesPlace, IsIdle, TookLast, took_last}
+use Rattle.ms_sound.proofs.Lasts.{TakesPlace, IsIdle, TookLast, took_last}
 
 abbrev pub BetweenEvents : Type 0
 BetweenEvents = (g : List Run) (m x : Event) (b k : ℕ) → StandsInOnePlace g → IsClosed g → PassesAll g m b k → PassesFirst g x m →
@@ -165,10 +163,11 @@ module _ (f : FuncState) (numbered : IsNumbered f) (once : BeginsOnce f) (sound 
     by_run d is (no_write e) = absurd (none_in (subst (λ k. Contains (written_by k) w) (is ∙ e) there))
     by_run d is (all_written p to bytes e all within does) =
         let place = spread_in p to bytes w (subst (λ k. Contains (written_by k) w) (is ∙ does) there) in
-        let value : operand_of t.locals Ptr g.to ≡ Some (Pointer w.object to) = e ∙ ap (λ o. Some (Pointer o to)) (sym place.0) in
-        (to -ℤ from,
-        root_followed f numbered sound once input fits n t on x found g.no_phi g.to g.used g.base r from g.is_base g.has_root Ptr w.object to value,
-        among_from to from w.offset len (subst (λ m. HoldsByte to m w.offset) all place.1))
+        let value : operand_of t.locals Ptr g.to ≡ Some (Pointer w.object to) = e ∙ ap (λ o. Some (Pointer o to)) (sym place.0) in (
+          to -ℤ from,
+          root_followed f numbered sound once input fits n t on x found g.no_phi g.to g.used g.base r from g.is_base g.has_root Ptr w.object to value,
+          among_from to from w.offset len (subst (λ m. HoldsByte to m w.offset) all place.1),
+        )
 
   module _ (from : ℤ) (len : ℕ) where
     abbrev place_of : Loc
@@ -208,10 +207,10 @@ module _ (f : FuncState) (numbered : IsNumbered f) (once : BeginsOnce f) (sound 
     none_behind b k pass reach i x found le is =
         let one = numbered.one_place b i c j x y found maker.found is in
         let self : AllPass f c j c j = λ p path.
-            ⊎_elim
-            (λ (h : (c ≡ b) × (j < k)). absurd (let a = h.1 in let e = one.1 in omega arith))
-            (λ (h : Contains p c). inr h)
-            (pass p (subst (λ a. IsPath (graph_of f.blocks) a p) (sym one.0) path)) in
+        ⊎_elim
+        (λ (h : (c ≡ b) × (j < k)). absurd (let a = h.1 in let e = one.1 in omega arith))
+        (λ (h : Contains p c). inr h)
+        (pass p (subst (λ a. IsPath (graph_of f.blocks) a p) (sym one.0) path)) in
         never_both f c j c j self self (subst (λ a. IsReached (graph_of f.blocks) a) one.0 reach)
 
     -- no phi writes
@@ -276,24 +275,26 @@ module _ (f : FuncState) (numbered : IsNumbered f) (once : BeginsOnce f) (sound 
               Counts (and_one y.number D) answer.phis e × TookLast f input (and_one y.number D) answer.phis n e
           answered D writes e answer =
               let path = took_last f input (and_one y.number D) answer.phis n s on b k about (none_counts D writes b k pass reach) in
-              let is = answer.is_last path.0 path.1 in
-              (subst (λ d. Counts (and_one y.number D) answer.phis d) is (counts_at (graph_of f.blocks) (and_one y.number D) answer.phis b k path.0),
-              subst (λ d. TookLast f input (and_one y.number D) answer.phis n d) is path.2)
+              let is = answer.is_last path.0 path.1 in (
+                subst (λ d. Counts (and_one y.number D) answer.phis d) is (counts_at (graph_of f.blocks) (and_one y.number D) answer.phis b k path.0),
+                subst (λ d. TookLast f input (and_one y.number D) answer.phis n d) is path.2,
+              )
 
           turn_each : (e : Event) → IsAnswer (graph_of f.blocks) more b k e → (e ≡ Of y.number → ⊥) →
               (m : ℕ) × OccursLast f input e m n × ((l : ℕ) (t : State) → m ≤ l → l < n → IsOn f input l t → (w : Written) → Contains (written_of f t) w → IsByteOf f s place_of w.object w.offset → ⊥)
           turn_each e answer other =
               let a = answered E E_writes e answer in
-              let last = a.1 in
-              (last.m,
-              took input more answer.phis E n e a.0
-              (λ i is t.
-              ⊎_elim
-              (λ (own : nat_eq i y.number ≡ true). absurd (other (is ∙ ap Of (eqb-true i y.number own))))
-              (λ (d : E i ≡ true). d)
-              (or_cases (nat_eq i y.number) (E i) t))
-              E_writes last,
-              quiet input fits answer.phis last.m n s on last.idle)
+              let last = a.1 in (
+                last.m,
+                took input more answer.phis E n e a.0
+                    (λ i is t.
+                    ⊎_elim
+                    (λ (own : nat_eq i y.number ≡ true). absurd (other (is ∙ ap Of (eqb-true i y.number own))))
+                    (λ (d : E i ≡ true). d)
+                    (or_cases (nat_eq i y.number) (E i) t))
+                    E_writes last,
+                quiet input fits answer.phis last.m n s on last.idle,
+              )
 
           -- Before y.
 
