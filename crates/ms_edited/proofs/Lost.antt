@@ -4,10 +4,9 @@ use Rattle.std.specs.Prelude.{Contains, slice_get, option_map, filter, position,
 use Rattle.std.specs.List.{position_or_len}
 use Rattle.std.proofs.lemmas.Bool.{cases_Bool, cases_eq, cases_lt, lt-ltb, lt-leb, eqb-true, eq-eqb, ne_eqb, eqb-false, cond-true, cond-false, true≢false}
 use Rattle.std.proofs.lemmas.Option.{slice_get-get_or, get_or_from_slice_get, slice_get_within, slice_get-map}
-use Rattle.ms_ir.specs.declared.names.BlockNo.{BlockNo}
 use Rattle.ms_ir.specs.declared.inst.Entry.{Entry}
 use Rattle.ms_ir.specs.declared.inst.Inst.{Inst}
-use Rattle.ms_ir.specs.declared.inst.Inst.TheVariants.{Alloca, Gep, Step, Load, Store, Copy, Call, Bin, Cmp, Select, Cast, Phi}
+use Rattle.ms_ir.specs.declared.inst.Inst.TheVariants.{Phi}
 use Rattle.ms_ir.specs.Inst.{has_result, result_type}
 use Rattle.ms_ir.specs.Func.{Placed, Block, insts_at}
 use Rattle.ms_ir.specs.Types.{is_alloca, is_phi, has_entry, types_stand}

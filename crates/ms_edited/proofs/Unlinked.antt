@@ -1,28 +1,28 @@
 -- An edge is cut.
-use Rattle.std.proofs.Common.{◌≡◌, ◌≢◌, ◌∙◌, ◌<◌, ◌≤◌, ◌⊎◌, ◌+◌, ◌^◌, ℕ, zero, suc, Bool, true, false, List, [], ◌∷◌, length, get_or, set, map, Option, Some, None, refl, sym, ap, subst, inl, inr, arith, length-set, get_or-set_same, get_or-set_other}
+use Rattle.std.proofs.Common.{◌≡◌, ◌∙◌, ◌<◌, ◌⊎◌, ◌+◌, ◌^◌, ℕ, zero, suc, Bool, true, false, List, [], ◌∷◌, length, get_or, map, Option, Some, None, refl, sym, ap, subst, inl, inr, arith, length-set}
 use Rattle.std.specs.Prelude.{Contains, slice_get, option_map, is_some, if◌then◌else◌, ◌==◌}
 use Rattle.std.proofs.lemmas.Bool.{cases_Bool, cases_eq, cases_lt, true≢false}
 use Rattle.std.proofs.lemmas.List.{length-map}
 use Rattle.std.proofs.lemmas.Option.{slice_get-get_or, get_or_from_slice_get}
-use Rattle.ms_paths.specs.Flow.{IsPath, IsMet}
+use Rattle.ms_paths.specs.Flow.{IsMet}
 use Rattle.ms_ir.specs.declared.names.BlockNo.{BlockNo}
 use Rattle.ms_ir.specs.declared.names.LocalNo.{LocalNo}
 use Rattle.ms_ir.specs.declared.inst.Entry.{Entry}
 use Rattle.ms_ir.specs.declared.inst.Inst.{Inst}
-use Rattle.ms_ir.specs.declared.inst.Inst.TheVariants.{Alloca, Gep, Step, Load, Store, Copy, Call, Bin, Cmp, Select, Cast, Phi}
+use Rattle.ms_ir.specs.declared.inst.Inst.TheVariants.{Phi}
 use Rattle.ms_ir.specs.declared.inst.Term.{Term}
 use Rattle.ms_ir.specs.declared.inst.Term.TheVariants.{Br, CondBr, Ret, Unreachable}
 use Rattle.ms_ir.specs.declared.inst.Edit.TheVariants.{Unlink}
 use Rattle.ms_ir.specs.declared.faults.EditFault.TheVariants as fault
-use Rattle.ms_ir.specs.Inst.{has_result, result_type}
+use Rattle.ms_ir.specs.Inst.{has_result}
 use Rattle.ms_ir.specs.Func.{Placed, Block, FuncState, insts_at, no_block, with_insts}
-use Rattle.ms_ir.specs.Changes.{IsCondBr, kept_target, cut_target, placed_without, without_first, inst_without, with_entry_lost, with_term, blocks_with_edge_cut, with_edge_cut}
+use Rattle.ms_ir.specs.Changes.{IsCondBr, kept_target, cut_target, placed_without, without_first, inst_without, with_entry_lost, with_term, with_edge_cut}
 use Rattle.ms_ir.specs.Graph.{graph_of, successors}
 use Rattle.ms_ir.specs.Locals.{IsGiver, IsNumbered}
-use Rattle.ms_ir.specs.Types.{is_alloca, is_phi, has_entry, types_stand}
+use Rattle.ms_ir.specs.Types.{is_phi, has_entry}
 use Rattle.ms_ir.specs.Uses.{Operand, Use, operands_of, term_operands, used_at, entry_use, uses_at, term_uses_at}
-use Rattle.ms_ir.specs.Sound.{IsUsedBefore, LeadsToFirst, HasBadEntries, HasTwoValues, edges_between, times_in, from_of}
-use Rattle.ms_ir.specs.SoundFunc.{AreValues, IsAmongPhis, IsSoundInst, IsSoundFunc}
+use Rattle.ms_ir.specs.Sound.{IsUsedBefore, LeadsToFirst, HasBadEntries, edges_between, times_in, from_of}
+use Rattle.ms_ir.specs.SoundFunc.{AreValues, IsSoundFunc}
 use Rattle.ms_ir.specs.Edits.{edited, term_at, IsFaultless, IsUseIn}
 use Rattle.ms_edited.proofs.Places.{term_stays}
 use Rattle.ms_edited.proofs.Shape.{PartIsReducible, HasNoOtherEdge, IsGivenStill, IsShaped, IsShapedTerm, path_within, same_values, old_block, sound_by}
@@ -278,11 +278,14 @@ module _ (f : FuncState) (n : IsNumbered f) (block : BlockNo) (slot : ℕ) (fine
         | inr none ↦
             let idle = no_edge c (lost_inst cut.0 b c x.inst) none (good_entries c x.inst (sound.insts c k x found).entries) in
             absurd
-            (fine fault.Kind
-            (is_cond, low_slot, (
-              (k, lost cut.0 b c x, ap (λ m. slice_get (insts_at g.blocks m) k) (sym here.0) ∙ to_unlink c k x found, no_entry (lost_inst cut.0 b c x.inst) none),
-              λ a. ap (λ m. edges_between g.blocks a m) (sym here.0) ∙ idle a,
-            )))
+            (fine fault.Kind (
+              is_cond,
+              low_slot,
+              (
+                (k, lost cut.0 b c x, ap (λ m. slice_get (insts_at g.blocks m) k) (sym here.0) ∙ to_unlink c k x found, no_entry (lost_inst cut.0 b c x.inst) none),
+                λ a. ap (λ m. edges_between g.blocks a m) (sym here.0) ∙ idle a,
+              ),
+            ))
       ]
     ]
 
