@@ -7,3 +7,6 @@ pub mod Faults
 pub mod Inserted
 pub mod Removed
 pub mod Moved
+pub mod Lost
+pub mod Unlinked
+pub mod Joined

@@ -1,20 +1,20 @@
 -- An instruction is moved.
-use Rattle.std.proofs.Common.{◌≡◌, ◌∙◌, ◌<◌, ◌≤◌, ◌^◌, ℕ, true, List, length, Option, Some, refl, sym, ap, subst, inl, inr, arith}
+use Rattle.std.proofs.Common.{◌≡◌, ◌∙◌, ◌<◌, ℕ, true, List, length, Option, Some, refl, sym, ap, subst, inl, inr, arith}
 use Rattle.std.specs.Prelude.{slice_get}
 use Rattle.ms_ir.specs.declared.names.BlockNo.{BlockNo}
 use Rattle.ms_ir.specs.declared.names.LocalNo.{LocalNo}
 use Rattle.ms_ir.specs.declared.inst.Edit.TheVariants.{Move}
 use Rattle.ms_ir.specs.declared.faults.EditFault.TheVariants as fault
 use Rattle.ms_ir.specs.Inst.{result_type}
-use Rattle.ms_ir.specs.Func.{Placed, Block, FuncState, insts_at, cut_at, put_at}
-use Rattle.ms_ir.specs.Locals.{IsGiver, IsNumbered}
+use Rattle.ms_ir.specs.Func.{Placed, Block, FuncState, insts_at, cut_at}
+use Rattle.ms_ir.specs.Locals.{IsNumbered}
 use Rattle.ms_ir.specs.Uses.{Operand, Use, operands_of}
 use Rattle.ms_ir.specs.Sound.{IsUsedBefore}
 use Rattle.ms_ir.specs.SoundFunc.{AreValues, IsSoundFunc}
 use Rattle.ms_ir.specs.Edits.{edited, put_again, is_movable, IsNoTarget, IsFaultless, IsUseIn}
 use Rattle.ms_edited.proofs.Places.{put_term, put_size, cut_term, cut_size}
 use Rattle.ms_edited.proofs.Shape.{PartIsReducible, IsGivenStill, same_values, shape_of, sound_as}
-use Rattle.ms_edited.proofs.Put.{IsFresh, from_put, given_put, put_gives, to_put, put_shaped, put_numbered}
+use Rattle.ms_edited.proofs.Put.{IsFresh, from_put, given_put, put_gives, put_shaped, put_numbered}
 use Rattle.ms_edited.proofs.Cut.{with_cut, from_cut, to_cut, cut_shaped, cut_numbered, number_out, local_out}
 use Rattle.ms_edited.proofs.Faults.{there_is, block_in, place_in, movable_at}
 

@@ -1,7 +1,7 @@
 -- What a path meets, told by the places of instructions.
-use Rattle.std.proofs.Common.{◌≡◌, ◌<◌, ◌⊎◌, ℕ, zero, suc, List, [], ◌∷◌, length, take, Some, refl, sym, ap, subst, inl, inr, arith}
+use Rattle.std.proofs.Common.{◌≡◌, ◌<◌, ◌⊎◌, ℕ, zero, suc, List, [], ◌∷◌, take, Some, refl, sym, ap, subst, inl, inr, arith}
 use Rattle.std.specs.Prelude.{Contains, slice_get}
-use Rattle.ms_paths.specs.Flow.{block_at, IsMet}
+use Rattle.ms_paths.specs.Flow.{IsMet}
 use Rattle.ms_ir.specs.Func.{Placed, Block, insts_at}
 use Rattle.ms_ir.specs.Graph.{graph_of, numbers}
 use Rattle.ms_edited.proofs.Shape.{events_at}

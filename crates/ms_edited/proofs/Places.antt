@@ -1,8 +1,7 @@
 -- Where instructions stand once one is put among them or taken out.
-use Rattle.std.proofs.Common.{◌≡◌, ◌∙◌, ◌<◌, ◌≤◌, ◌⊎◌, ℕ, zero, suc, ◌+◌, List, [], ◌∷◌, length, get_or, set, Some, None, refl, sym, ap, inl, inr, ⊎_elim, arith, length-set}
+use Rattle.std.proofs.Common.{◌≡◌, ◌<◌, ◌≤◌, ◌⊎◌, ℕ, zero, suc, List, [], ◌∷◌, length, get_or, set, Some, refl, sym, ap, inl, inr, arith, length-set}
 use Rattle.std.specs.Prelude.{slice_get, insert, remove}
 use Rattle.std.proofs.lemmas.List.Edits.{length-remove}
-use Rattle.ms_ir.specs.declared.inst.Term.{Term}
 use Rattle.ms_ir.specs.Func.{Placed, Block, insts_at, no_block, with_insts, put_at, cut_at}
 use Rattle.ms_ir.specs.Edits.{term_at}
 

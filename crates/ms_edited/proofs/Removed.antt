@@ -1,17 +1,16 @@
 -- An instruction is removed, whose result nothing uses.
-use Rattle.std.proofs.Common.{◌≡◌, ◌∙◌, ◌<◌, ◌⊎◌, ℕ, zero, suc, List, [], ◌∷◌, length, map, Some, refl, sym, ap, subst, inl, inr, arith}
+use Rattle.std.proofs.Common.{◌≡◌, ◌∙◌, ◌<◌, ℕ, zero, suc, List, [], ◌∷◌, length, map, Some, refl, sym, ap, subst, inl, inr, arith}
 use Rattle.std.specs.Prelude.{Contains, slice_get}
 use Rattle.ms_paths.specs.Flow.{IsPath, IsMet}
 use Rattle.ms_ir.specs.declared.names.BlockNo.{BlockNo}
 use Rattle.ms_ir.specs.declared.names.LocalNo.{LocalNo}
-use Rattle.ms_ir.specs.declared.inst.Val.TheVariants.{Local}
 use Rattle.ms_ir.specs.declared.inst.Entry.{Entry}
 use Rattle.ms_ir.specs.declared.inst.Inst.{Inst}
 use Rattle.ms_ir.specs.declared.inst.Inst.TheVariants.{Alloca, Gep, Step, Load, Store, Copy, Call, Bin, Cmp, Select, Cast, Phi}
 use Rattle.ms_ir.specs.declared.inst.Term.{Term}
 use Rattle.ms_ir.specs.declared.inst.Edit.TheVariants.{Remove}
 use Rattle.ms_ir.specs.declared.faults.EditFault.TheVariants as fault
-use Rattle.ms_ir.specs.Func.{Placed, Block, FuncState, insts_at, cut_at}
+use Rattle.ms_ir.specs.Func.{Placed, FuncState, insts_at}
 use Rattle.ms_ir.specs.Graph.{graph_of, successors}
 use Rattle.ms_ir.specs.Locals.{IsNumbered}
 use Rattle.ms_ir.specs.Uses.{Operand, Use, operands_of, term_operands, used_at, entry_use, uses_at, term_uses_at}

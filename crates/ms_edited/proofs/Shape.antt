@@ -1,5 +1,5 @@
 -- A sound function, apart from its uses, and what of it a function has that has no other edges.
-use Rattle.std.proofs.Common.{◌≡◌, ◌∙◌, ◌<◌, ℕ, zero, suc, Bool, true, false, List, [], ◌∷◌, length, get_or, Some, None, refl, sym, ap, subst, inl, inr, arith}
+use Rattle.std.proofs.Common.{◌≡◌, ◌∙◌, ◌<◌, ℕ, zero, suc, Bool, true, false, List, [], ◌∷◌, length, get_or, Some, refl, sym, ap, subst, inl, inr, arith}
 use Rattle.std.specs.Prelude.{Contains, slice_get, filter}
 use Rattle.std.proofs.lemmas.Option.{slice_get-get_or, get_or_from_slice_get, slice_get_within}
 use Rattle.ms_paths.specs.Flow.{Block as Run, block_at, HasEdge, IsPath, IsClosed, IsReducible}
@@ -16,9 +16,9 @@ use Rattle.ms_ir.specs.Func.{Placed, Block, FuncState, insts_at, no_block}
 use Rattle.ms_ir.specs.Graph.{graph_of, successors, numbers}
 use Rattle.ms_ir.specs.Locals.{HasType, IsGiver}
 use Rattle.ms_ir.specs.Types.{is_alloca, is_phi, has_entry, types_stand, term_stands}
-use Rattle.ms_ir.specs.Uses.{Operand, Use, operands_of, term_operands, uses_at, term_uses_at}
+use Rattle.ms_ir.specs.Uses.{Operand, Use, operands_of, term_operands}
 use Rattle.ms_ir.specs.Sound.{IsUsedBefore, LeadsToFirst, HasBadEntries, times_in}
-use Rattle.ms_ir.specs.SoundFunc.{IsValueIn, AreValues, AreBehind, IsAmongPhis, IsSoundInst, IsSoundTerm, IsSoundFunc}
+use Rattle.ms_ir.specs.SoundFunc.{IsValueIn, AreValues, IsAmongPhis, IsSoundInst, IsSoundFunc}
 use Rattle.ms_ir.specs.Edits.{term_at, IsUseIn}
 
 -- ---- the graph
