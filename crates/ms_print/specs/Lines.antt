@@ -10,7 +10,7 @@ use Rattle.ms_ir.specs.declared.inst.Val.TheVariants.{Num, Local, Global}
 use Rattle.ms_ir.specs.declared.inst.Arg.{Arg}
 use Rattle.ms_ir.specs.declared.inst.Entry.{Entry}
 use Rattle.ms_ir.specs.declared.inst.Inst.{Inst}
-use Rattle.ms_ir.specs.declared.inst.Inst.TheVariants.{Alloca, Gep, Load, Store, Copy, Call, Bin, Cmp, Select, Cast, Phi}
+use Rattle.ms_ir.specs.declared.inst.Inst.TheVariants.{Alloca, Gep, Step, Load, Store, Copy, Call, Bin, Cmp, Select, Cast, Phi}
 use Rattle.ms_ir.specs.declared.inst.Term.{Term}
 use Rattle.ms_ir.specs.declared.inst.Term.TheVariants.{Br, CondBr, Ret, Unreachable}
 use Rattle.ms_ir.specs.Symbols.{NamesState}
@@ -67,10 +67,12 @@ raw_arg s a = record { ty = a.ty; val = raw_val s a.val; text = a.text }
 abbrev pub raw_entry : Shown → Entry → RawEntry
 raw_entry s e = record { val = raw_val s e.val; from = label_of s.labels e.from.0 }
 
--- what stands behind a call's arguments is all in its tail
+-- What stands behind a call's arguments is all in its tail. No line gives a step yet: its parts are those of a getelementptr, and its index has the text
+-- of its locals as it was kept.
 abbrev pub raw_inst : Shown → Inst → RawInst
 raw_inst s (Alloca size head tail) = raw.Alloca size head tail
 raw_inst s (Gep base offset head index tail) = raw.Gep (raw_val s base) offset head index tail
+raw_inst s (Step base offset terms head index tail) = raw.Gep (raw_val s base) offset head index tail
 raw_inst s (Load ty ptr tail) = raw.Load ty (raw_val s ptr) tail
 raw_inst s (Store ty val ptr tail) = raw.Store ty (raw_val s val) (raw_val s ptr) tail
 raw_inst s (Copy to from len head tail) = raw.Copy (raw_arg s to) (raw_arg s from) len head [] tail

@@ -341,7 +341,8 @@ fn raw_phi(
     })
 }
 
-// An instruction as its line says it.
+// An instruction as its line says it. No line gives a step yet: it is written as a `getelementptr` with its index as that was kept, not with
+// the present values of its terms.
 pub fn raw_inst(
     alloc: Global,
     names: &Names,
@@ -355,6 +356,14 @@ pub fn raw_inst(
         Inst::Gep {
             base,
             offset,
+            head,
+            index,
+            tail,
+        }
+        | Inst::Step {
+            base,
+            offset,
+            terms: _,
             head,
             index,
             tail,
