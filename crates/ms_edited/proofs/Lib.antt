@@ -10,3 +10,4 @@ pub mod Moved
 pub mod Lost
 pub mod Unlinked
 pub mod Joined
+pub mod Sampled
