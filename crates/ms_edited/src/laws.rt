@@ -1,9 +1,12 @@
 // What edits keep. Each law is the contract of a function that does nothing.
-ghost use Rattle.std.specs.Prelude.{◌≡◌, ◌<◌, ◌+◌, ◌^◌, ℕ, [], ◌∷◌};
-ghost use Rattle.ms_ir.specs.Func.{FuncState};
+ghost use Rattle.std.specs.Prelude.{◌≡◌, ◌<◌, ◌+◌, ◌^◌, ℕ, [], ◌∷◌, length};
+ghost use Rattle.ms_ir.specs.Func.{FuncState, insts_at};
+ghost use Rattle.ms_ir.specs.Uses.{Use};
+ghost use Rattle.ms_ir.specs.Sound.{IsUsedBefore};
 ghost use Rattle.ms_ir.specs.Locals.{IsNumbered};
 ghost use Rattle.ms_ir.specs.SoundFunc.{IsSoundFunc};
-ghost use Rattle.ms_ir.specs.Edits.{edited, IsFaultless, IsFittingEdit, IsRefused};
+ghost use Rattle.ms_ir.specs.Edits.{edited, IsUseIn, IsFaultless, IsFittingEdit, IsRefused};
+ghost use Rattle.ms_ir.specs.declared.names.BlockNo.{BlockNo};
 ghost use Rattle.ms_ir.specs.declared.names.Name.TheVariants.{Number, Absent};
 ghost use Rattle.ms_ir.specs.declared.names.Ty.TheVariants.{I32};
 ghost use Rattle.ms_ir.specs.declared.inst.Val.TheVariants.{Num};
@@ -24,6 +27,13 @@ pub fn edits_keep_sound()
 /// Each number stands for one thing behind such an edit, as long as there are numbers left.
 pub fn edits_keep_numbers()
     ensures { (f : FuncState) (e : Edit) → IsNumbered f → f.made + 1 < 2 ^ 32 → IsFaultless f e → IsNumbered (edited f e) }
+{}
+
+/// Where an instruction of a sound function is removed, no path comes to a use of a local before its definition, be the edit refused or not: what is
+/// left of the uses of the removed instruction's result counts as another fault.
+pub fn removes_keep_order()
+    ensures { (f : FuncState) (block : BlockNo) (place : ℕ) → IsNumbered f → IsSoundFunc f → block.0 < length f.blocks → place < length (insts_at f.blocks block.0) →
+        (u : Use) → IsUseIn (edited f (Remove block place)).blocks u → IsUsedBefore (edited f (Remove block place)) u → ⊥ }
 {}
 
 /// Edits of small functions: what becomes of them, and why some are refused.

@@ -36,7 +36,7 @@
 //! definition is asked of the paths of the edited function, not of a tree of dominators that some code keeps. The four edits are the least with which a
 //! pass on memory can do its work: only loads, stores, copies and calls come, go or move, so no alloca leaves the first block and no phi changes but by
 //! the edge that is cut. A remove and an unlink are never refused for the order of definitions and uses, and need not be: a path on which a definition
-//! that stays is not met is one of the old function too. An edge is not cut where a phi would be left with no edge to its block, since a phi has an entry.
+//! that stays is not met is one of the old function too ([`removes_keep_order`]). An edge is not cut where a phi would be left with no edge to its block, since a phi has an entry.
 //!
 //! **What a caller may assume.** For a function that is numbered and sound, and an edit that has no fault: what is left is sound ([`edits_keep_sound`];
 //! an inserted instruction has types that can stand and numbers within their ranges, `IsFittingEdit`, as each line of the grammar has), and numbered where
@@ -50,4 +50,4 @@
 
 mod laws;
 
-pub use laws::{edits_keep_numbers, edits_keep_sound, samples};
+pub use laws::{edits_keep_numbers, edits_keep_sound, removes_keep_order, samples};
