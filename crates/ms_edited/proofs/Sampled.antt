@@ -1,14 +1,14 @@
 -- Edits of small functions.
-use Rattle.std.proofs.Common.{◌≡◌, ◌∙◌, ◌<◌, ◌≤◌, ℕ, zero, suc, true, false, List, [], ◌∷◌, length, Some, None, refl, sym, ap, inl, inr, arith}
+use Rattle.std.proofs.Common.{◌≡◌, ◌∙◌, ◌<◌, ◌≤◌, ℕ, zero, suc, false, List, [], ◌∷◌, length, Some, refl, sym, ap, inl, inr, arith}
 use Rattle.std.specs.Prelude.{slice_get}
 use Rattle.std.proofs.lemmas.Bool.{true≢false}
 use Rattle.ms_paths.specs.Flow.{IsMet}
 use Rattle.ms_ir.specs.declared.names.Name.TheVariants.{Number, Absent}
 use Rattle.ms_ir.specs.declared.names.LocalNo.{LocalNo}
+use Rattle.ms_ir.specs.declared.names.Ty.{Ty}
 use Rattle.ms_ir.specs.declared.names.Ty.TheVariants.{I32, Ptr}
-use Rattle.ms_ir.specs.declared.inst.Val.{Val}
+use Rattle.ms_ir.specs.declared.names.Param.{Param}
 use Rattle.ms_ir.specs.declared.inst.Val.TheVariants.{Num, Local}
-use Rattle.ms_ir.specs.declared.inst.Inst.{Inst}
 use Rattle.ms_ir.specs.declared.inst.Inst.TheVariants.{Load, Store, Phi}
 use Rattle.ms_ir.specs.declared.inst.Edit.{Edit}
 use Rattle.ms_ir.specs.declared.inst.Edit.TheVariants.{Insert, Remove, Move, Unlink}
@@ -16,11 +16,12 @@ use Rattle.ms_ir.specs.declared.faults.EditFault.{EditFault}
 use Rattle.ms_ir.specs.declared.faults.EditFault.TheVariants as fault
 use Rattle.ms_ir.specs.Func.{Placed, FuncState, insts_at}
 use Rattle.ms_ir.specs.Graph.{graph_of}
-use Rattle.ms_ir.specs.Locals.{IsUngiven}
+use Rattle.ms_ir.specs.Locals.{IsUngiven, HasType}
 use Rattle.ms_ir.specs.Types.{is_phi}
 use Rattle.ms_ir.specs.Uses.{Operand, of_type}
 use Rattle.ms_ir.specs.Sound.{edges_between}
 use Rattle.ms_ir.specs.Edits.{edited, HasFault, NamesNoLocal, IsRefused, IsFaultless, refusal_of, IsNoTarget, is_movable}
+use Rattle.ms_edited.proofs.Ordered.{number, no_number, no_member, some_member, gives_none, diamond_givers, inserted_in_time, moved_in_time}
 use Rattle.ms_edited.specs.Samples.{local, block_no, entry, stores, loads, diamond, guarded}
 
 -- the fault is the one with the least number where none of those below it is there
@@ -57,14 +58,9 @@ differ m n lt e = omega arith
 -- the condition and the pointer are the function's
 has_params : (n : ℕ) (l : LocalNo) → n < 2 → local n ≡ Local l → length diamond.params ≤ l.0 → ⊥
 has_params n l lt e le =
-    let number : ℕ → LocalNo = λ k. record { 0 = k } in
-    let one : number n ≡ l = cc in
-    let is : n ≡ l.0 = ap (λ (k : LocalNo). k.0) one in
+    let is : l.0 ≡ n = number n l e in
     let two : 2 ≤ l.0 = le in
     omega arith
-
-no_number : (k : ℕ) (l : LocalNo) → Num I32 k ≡ Local l → ⊥
-no_number k l e = cc
 
 stores_named : (k : ℕ) → NamesNoLocal diamond (stores k) → ⊥
 stores_named k (o, l, (zero, lt, is), val, no_local) = no_number k l (ap (λ (q : Operand). q.val) is ∙ val)
@@ -76,35 +72,25 @@ pointer_named (o, l, (zero, lt, is), val, no_local) = has_params 1 l (omega arit
 pointer_named (o, l, (suc zero, lt, is), val, no_local) = has_params 1 l (omega arith) (ap (λ (q : Operand). q.val) is ∙ val) no_local.0
 pointer_named (o, l, (suc (suc i), lt, is), val, no_local) = (let l : suc (suc i) < 2 = lt in omega arith)
 
-other_local : (x : Placed) (m n : ℕ) → x.result ≡ Some (record { 0 = m }) → x.result ≡ Some (record { 0 = n }) → m ≡ n
-other_local x m n a b =
-    let number : ℕ → LocalNo = λ k. record { 0 = k } in
-    let both : Some (number m) ≡ Some (number n) = sym a ∙ b in
-    let one : number m ≡ number n = cc in
-    ap (λ (k : LocalNo). k.0) one
-
-none_here : (x y : Placed) (l : LocalNo) → Some x ≡ Some y → x.result ≡ None → y.result ≡ Some l → ⊥
-none_here x y l e a b =
-    let one : x ≡ y = cc in
-    let both : None ≡ Some l = sym a ∙ ap (λ (z : Placed). z.result) one ∙ b in
-    cc
-
-some_here : (x y : Placed) (m n : ℕ) → Some x ≡ Some y → x.result ≡ Some (record { 0 = m }) → y.result ≡ Some (record { 0 = n }) → m ≡ n
-some_here x y m n e a b = let one : x ≡ y = cc in other_local x m n a (ap (λ (z : Placed). z.result) one ∙ b)
+same_inst : {A : Type 0} (F : Placed → A) (x y : Placed) → Some x ≡ Some y → F x ≡ F y
+same_inst F x y e = ap F (some_member x y e)
 
 -- the next local is none of the function's
 next_ungiven : IsUngiven diamond.blocks (record { 0 = 4 })
-next_ungiven zero zero x h = none_here _ x (record { 0 = 4 }) h.found refl h.gives
-next_ungiven zero (suc zero) x h = (let e = some_here _ x 2 4 h.found refl h.gives in omega (arith, e))
-next_ungiven zero (suc (suc k)) x h = (let e : None ≡ Some x = h.found in cc)
-next_ungiven (suc zero) zero x h = none_here _ x (record { 0 = 4 }) h.found refl h.gives
-next_ungiven (suc zero) (suc k) x h = (let e : None ≡ Some x = h.found in cc)
-next_ungiven (suc (suc zero)) zero x h = (let e = some_here _ x 3 4 h.found refl h.gives in omega (arith, e))
-next_ungiven (suc (suc zero)) (suc k) x h = (let e : None ≡ Some x = h.found in cc)
-next_ungiven (suc (suc (suc b))) k x h = (let e : None ≡ Some x = h.found in cc)
+next_ungiven b k x h = elim (diamond_givers (record { 0 = 4 }) b k x h) [
+  | inl by ↦ differ 2 4 (omega arith) (sym by.0)
+  | inr by ↦ differ 3 4 (omega arith) (sym by.0)
+]
 
-same_inst : {A : Type 0} (F : Placed → A) (x y : Placed) → Some x ≡ Some y → F x ≡ F y
-same_inst F x y e = let one : x ≡ y = cc in ap F one
+-- the second parameter is a pointer
+pointer_type : (l : LocalNo) (ty : Ty) → l.0 ≡ 1 → HasType diamond l ty → ty ≡ Ptr
+pointer_type l ty is (inl (p, found, of)) =
+    let at : slice_get diamond.params 1 ≡ Some p = ap (slice_get diamond.params) (sym is) ∙ found in
+    sym of ∙ sym (ap (λ (q : Param). q.ty) (some_member _ p at))
+pointer_type l ty is (inr (b, k, x, h, of)) = elim (diamond_givers l b k x h) [
+  | inl by ↦ absurd (differ 1 2 (omega arith) (sym is ∙ by.0))
+  | inr by ↦ absurd (differ 1 3 (omega arith) (sym is ∙ by.0))
+]
 
 -- no phi stands in the first two blocks
 no_phi : (insts : List Placed) → ((j : ℕ) (x : Placed) → slice_get insts j ≡ Some x → is_phi x.inst ≡ false) → IsNoTarget insts 0 → ⊥
@@ -190,8 +176,12 @@ pointer_stored = refused diamond (Insert (block_no 0) 0 (Store I32 (local 1) (lo
 
 -- the load's result comes into the phi from the first block
 pub used_too_early : IsRefused diamond (Move (block_no 0) 1 (block_no 1) 0) fault.Order
-used_too_early = refused diamond (Move (block_no 0) 1 (block_no 1) 0) fault.Order
-    (record { block = 0; place = 1; val = local 2 }, inl (2, 0, _, refl, (0, omega arith, refl)), ([], record {
+used_too_early = refused diamond (Move (block_no 0) 1 (block_no 1) 0) fault.Order (
+  record { block = 0; place = 1; val = local 2 },
+  inl (2, 0, _, refl, (0, omega arith, refl)),
+  (
+    [],
+    record {
       local = record { 0 = 2 };
       is_local = refl;
       block = 1;
@@ -200,7 +190,9 @@ used_too_early = refused diamond (Move (block_no 0) 1 (block_no 1) 0) fault.Orde
       gives = record { found = refl; gives = refl };
       path_is = refl;
       not_met = not_met;
-    }))
+    },
+  ),
+)
     (λ lt. no_name) (λ lt. no_place) (λ lt h. true≢false (same_inst (λ z. is_movable z.inst) _ h.0 h.1 ∙ h.2)) (λ lt h. h)
     (past 15 15 (omega arith)) (past 16 15 (omega arith)) where
       not_met : IsMet (graph_of (edited diamond (Move (block_no 0) 1 (block_no 1) 0)).blocks) 1 0 1 [] → ⊥
@@ -232,13 +224,45 @@ no_slot = refused diamond (Unlink (block_no 0) 2) fault.NoEdge (inr (omega arith
 
 -- ---- edits without a fault
 
+pub insert_fine : IsFaultless diamond (Insert (block_no 2) 1 (stores 7) Absent)
+insert_fine fault.Name (inl h) = (let l : 3 ≤ 2 = h in omega arith)
+insert_fine fault.Name (inr (inl h)) = h
+insert_fine fault.Name (inr (inr (inl h))) = stores_named 7 h
+insert_fine fault.Name (inr (inr (inr h))) = h.1.0 refl
+insert_fine fault.Place (inl (zero, x, found, is, le)) = (let l : 1 ≤ 0 = le in omega arith)
+insert_fine fault.Place (inl (suc j, x, found, is, le)) = no_member x found
+insert_fine fault.Place (inr h) = (let l : 1 < 1 = h in omega arith)
+insert_fine fault.Kind h = true≢false h
+insert_fine fault.Types (o, (zero, lt, is), (l, ty, val, of, other)) = no_number 7 l (ap (λ (q : Operand). q.val) is ∙ val)
+insert_fine fault.Types (o, (suc zero, lt, is), (l, ty, val, of, other)) =
+    other (pointer_type l ty (number 1 l (ap (λ (q : Operand). q.val) is ∙ val)) of ∙ ap (λ (q : Operand). q.ty) is)
+insert_fine fault.Types (o, (suc (suc k), lt, is), h) = (let l : suc (suc k) < 2 = lt in omega arith)
+insert_fine fault.Order (u, used, before) = inserted_in_time u used before
+insert_fine fault.Used h = h
+insert_fine fault.NoEdge h = h
+insert_fine fault.Memory h = h
+
+pub move_fine : IsFaultless diamond (Move (block_no 0) 0 (block_no 0) 1)
+move_fine fault.Name (inl h) = (let l : 3 ≤ 0 = h in omega arith)
+move_fine fault.Name (inr h) = (let l : 3 ≤ 0 = h in omega arith)
+move_fine fault.Place (inl h) = (let l : 2 ≤ 0 = h in omega arith)
+move_fine fault.Place (inr (inl (zero, x, found, is, le))) = (let l : 1 ≤ 0 = le in omega arith)
+move_fine fault.Place (inr (inl (suc j, x, found, is, le))) = no_member x found
+move_fine fault.Place (inr (inr h)) = (let l : 1 < 1 = h in omega arith)
+move_fine fault.Kind h = true≢false (same_inst (λ z. is_movable z.inst) _ h.0 h.1 ∙ h.2)
+move_fine fault.Types h = h
+move_fine fault.Order (u, used, before) = moved_in_time u used before
+move_fine fault.Used h = h
+move_fine fault.NoEdge h = h
+move_fine fault.Memory h = h
+
 pub remove_fine : IsFaultless diamond (Remove (block_no 1) 0)
 remove_fine fault.Name h = (let l : 3 ≤ 1 = h in omega arith)
 remove_fine fault.Place h = (let l : 1 ≤ 0 = h in omega arith)
 remove_fine fault.Kind h = true≢false (same_inst (λ z. is_movable z.inst) _ h.0 h.1 ∙ h.2)
 remove_fine fault.Types h = h
 remove_fine fault.Order h = h
-remove_fine fault.Used h = none_here _ h.0 h.1 h.2 refl h.3
+remove_fine fault.Used h = gives_none _ h.0 h.1 h.2 refl h.3
 remove_fine fault.NoEdge h = h
 remove_fine fault.Memory h = h
 

@@ -1,5 +1,5 @@
 -- Small functions and their edits.
-use Rattle.std.specs.Prelude.{ℕ, true, List, [], ◌∷◌, Some, None}
+use Rattle.std.specs.Prelude.{ℕ, List, [], ◌∷◌, Some, None}
 use Rattle.ms_ir.specs.declared.names.Name.TheVariants.{Number, Absent}
 use Rattle.ms_ir.specs.declared.names.Ty.{Ty}
 use Rattle.ms_ir.specs.declared.names.Ty.TheVariants.{I1, I32, Ptr}

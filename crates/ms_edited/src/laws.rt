@@ -57,6 +57,8 @@ pub fn samples()
     ensures used { IsRefused diamond (Remove (block_no 0) 1) fault.Used }
     ensures no_fork { IsRefused diamond (Unlink (block_no 1) 0) fault.NoEdge }
     ensures no_slot { IsRefused diamond (Unlink (block_no 0) 2) fault.NoEdge }
+    ensures insert_fine { IsFaultless diamond (Insert (block_no 2) 1 (stores 7) Absent) }
+    ensures move_fine { IsFaultless diamond (Move (block_no 0) 0 (block_no 0) 1) }
     ensures remove_fine { IsFaultless diamond (Remove (block_no 1) 0) }
     ensures unlink_fine { IsFaultless diamond (Unlink (block_no 0) 1) }
 {}

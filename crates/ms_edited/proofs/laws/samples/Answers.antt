@@ -1,5 +1,5 @@
 use Rattle.std.proofs.Common.{refl}
-use Rattle.ms_edited.proofs.Sampled.{no_block_there, no_local_there, no_source_there, name_taken, before_phi, past_end, phi_stays, phi_without_edge, pointer_stored, used_too_early, load_used, no_fork, no_slot, remove_fine, unlink_fine}
+use Rattle.ms_edited.proofs.Sampled.{no_block_there, no_local_there, no_source_there, name_taken, before_phi, past_end, phi_stays, phi_without_edge, pointer_stored, used_too_early, load_used, no_fork, no_slot, insert_fine, move_fine, remove_fine, unlink_fine}
 use Rattle.ms_edited.proofs.laws.samples.Goals as goal
 
 pub returns : goal.returns
@@ -23,6 +23,8 @@ returns c = record {
   used = load_used;
   no_fork = no_fork;
   no_slot = no_slot;
+  insert_fine = insert_fine;
+  move_fine = move_fine;
   remove_fine = remove_fine;
   unlink_fine = unlink_fine;
 }
