@@ -10,3 +10,5 @@ pub mod Moved
 pub mod Lost
 pub mod Unlinked
 pub mod Joined
+pub mod Ordered
+pub mod Sampled

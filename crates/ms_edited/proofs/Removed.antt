@@ -37,30 +37,9 @@ kept_in b p F G all (x ∷ xs) u (suc i, lt, is) =
     let r = kept_in b p F G all xs u (i, (let l : suc i < suc (length (map G xs)) = lt in omega arith), is) in
     (r.0, (suc r.1.0, (let l = r.1.1 in omega arith), r.1.2), r.2)
 
-module _ (f : FuncState) (n : IsNumbered f) (block : BlockNo) (place : ℕ) (fine : IsFaultless f (Remove block place)) where
-  abbrev b : ℕ
-  b = block.0
-
+module _ (f : FuncState) (n : IsNumbered f) (b place : ℕ) (in_block : b < length f.blocks) (within : place < length (insts_at f.blocks b)) where
   abbrev g : FuncState
   g = with_cut f b place
-
-  in_block : b < length f.blocks
-  in_block = block_in f b (λ no. fine fault.Name no)
-
-  within : place < length (insts_at f.blocks b)
-  within = place_in (insts_at f.blocks b) place (λ past. fine fault.Place past)
-
-  pub removed_numbers : IsNumbered (edited f (Remove block place))
-  removed_numbers = cut_numbered f b place n
-
-  -- ---- values: what is used is not taken out
-  given_left : (l : LocalNo) → IsOperandIn f.blocks l → IsGivenStill f.blocks g.blocks l
-  given_left l used c k x h = elim (to_cut f.blocks b place c k x h.found) [
-    | inl here ↦
-        let at : slice_get (insts_at f.blocks b) place ≡ Some x = ap (λ j. slice_get (insts_at f.blocks b) j) (sym here.1) ∙ ap (λ a. slice_get (insts_at f.blocks a) k) (sym here.0) ∙ h.found in
-        absurd (fine fault.Used (x, l, at, h.gives, used))
-    | inr other ↦ (c, other.0, x, record { found = other.2; gives = h.gives }, refl)
-  ]
 
   -- ---- uses
   end_kept : (c : ℕ) → moved b place c (length (insts_at g.blocks c)) ≡ length (insts_at f.blocks c)
@@ -142,7 +121,8 @@ module _ (f : FuncState) (n : IsNumbered f) (block : BlockNo) (place : ℕ) (fin
     },
   )
 
-  behind_left : IsSoundFunc f → (u : Use) → IsUseIn g.blocks u → IsUsedBefore g u → ⊥
+  -- whatever else is wrong with the remove, no path comes to a use of what is left before its definition
+  pub behind_left : IsSoundFunc f → (u : Use) → IsUseIn g.blocks u → IsUsedBefore g u → ⊥
   behind_left sound u (inl (c, k, x, found, among)) before =
       let was = inst_used c k x.inst u among in
       (sound.insts c (moved b place c k) x (from_cut f.blocks b place c k x found)).uses was.0 was.1 (used_before u was.0 was.2 before)
@@ -151,12 +131,37 @@ module _ (f : FuncState) (n : IsNumbered f) (block : BlockNo) (place : ℕ) (fin
       let was = term_used c old.0.term u (subst (λ (t : Term). Contains (term_uses_at g.blocks c t) u) (sym old.2) among) in
       (sound.terms c old.0 old.1).uses was.0 was.1 (used_before u was.0 was.2 before)
 
+module _ (f : FuncState) (n : IsNumbered f) (block : BlockNo) (place : ℕ) (fine : IsFaultless f (Remove block place)) where
+  abbrev b : ℕ
+  b = block.0
+
+  abbrev left : FuncState
+  left = with_cut f b place
+
+  in_block : b < length f.blocks
+  in_block = block_in f b (λ bad. fine fault.Name bad)
+
+  within : place < length (insts_at f.blocks b)
+  within = place_in (insts_at f.blocks b) place (λ bad. fine fault.Place bad)
+
+  pub removed_numbers : IsNumbered (edited f (Remove block place))
+  removed_numbers = cut_numbered f b place n
+
+  -- what is used is not taken out
+  given_left : (l : LocalNo) → IsOperandIn f.blocks l → IsGivenStill f.blocks left.blocks l
+  given_left l used c k x h = elim (to_cut f.blocks b place c k x h.found) [
+    | inl here ↦
+        let at : slice_get (insts_at f.blocks b) place ≡ Some x = ap (λ j. slice_get (insts_at f.blocks b) j) (sym here.1) ∙ ap (λ a. slice_get (insts_at f.blocks a) k) (sym here.0) ∙ h.found in
+        absurd (fine fault.Used (x, l, at, h.gives, used))
+    | inr other ↦ (c, other.0, x, record { found = other.2; gives = h.gives }, refl)
+  ]
+
   pub removed_sound : PartIsReducible → IsSoundFunc f → IsSoundFunc (edited f (Remove block place))
   removed_sound part sound =
-      sound_as part f g sound refl (cut_size f.blocks b place) same_term
+      sound_as part f left sound refl (cut_size f.blocks b place) (cut_term f.blocks b place)
       (cut_shaped f.blocks b place (λ c k x found. shape_of f c k x.inst (sound.insts c k x found)))
       (λ c k x found.
       let at = from_cut f.blocks b place c k x found in
-      same_values f g (operands_of x.inst) refl (λ o l among is. given_left l (inl (c, moved b place c k, x, at, o, among, is))) (sound.insts c (moved b place c k) x at).operands)
+      same_values f left (operands_of x.inst) refl (λ o l among is. given_left l (inl (c, moved b place c k, x, at, o, among, is))) (sound.insts c (moved b place c k) x at).operands)
       (λ c x found o l among is. given_left l (inr (c, x, found, o, among, is)))
-      (behind_left sound)
+      (behind_left f n b place in_block within sound)
