@@ -1,9 +1,7 @@
 //! An accepted module that is printed is read and accepted as the same module, and prints the same text.
 //!
-//! The law of this crate, [`read_again`], ties the whole way of a text together: from its bytes to a module, and back to
-//! a text. With [`same_text`] and [`one_module`] it says so of every draft and module that the text is read as.
+//! The law of this crate, [`laws::read_again`], ties the whole way of a text together: from its bytes to a module, and back to
+//! a text. With [`laws::same_text`] and [`laws::one_module`] it says so of every draft and module that the text is read as.
 #![tactic(auto)]
 
-mod laws;
-
-pub use laws::{one_module, read_again, same_text};
+pub mod laws;

@@ -50,8 +50,8 @@
 //!
 //! **What a caller may assume.** Of the table of a function each answer is exact: `may_write`, `may_read`, `may_write_in_turn`, `must_write`,
 //! `reads`, `writes`, `fixed`, `turning`, `turning_of`, `outer` and `captured` hold where the definitions of the specs do, and nowhere else.
-//! [`tests_told`] says that the first three are tests that a search can name, [`one_location`] that an instruction reads one location at most,
-//! [`tables_kept`] what remains of a table behind an edit. `note_put`, `note_take` and `renew` keep it the function's, and the first two tell whether
+//! [`laws::tests_told`] says that the first three are tests that a search can name, [`laws::one_location`] that an instruction reads one location at most,
+//! [`laws::tables_kept`] what remains of a table behind an edit. `note_put`, `note_take` and `renew` keep it the function's, and the first two tell whether
 //! the captured allocas changed.
 //!
 //! **What a caller may not assume.** What may write need not write: only `must_write` says that a byte is written, of stores and memcpys through a
@@ -64,7 +64,7 @@
 mod alias;
 mod captures;
 mod flood;
-mod laws;
+pub mod laws;
 mod loc;
 mod maker;
 mod marks;
@@ -76,5 +76,4 @@ mod touch;
 mod turning;
 
 pub use alias::Alias;
-pub use laws::{one_location, tables_kept, tests_told, written_at_all};
 pub use loc::{Loc, Root};

@@ -6,7 +6,7 @@
 
 mod captures;
 mod effects;
-mod laws;
+pub mod laws;
 mod memory;
 mod outer;
 mod part;
@@ -14,4 +14,3 @@ mod texts;
 
 pub use captures::keeps_by;
 pub use effects::effects_by;
-pub use laws::one_meaning;

@@ -18,7 +18,7 @@ pub fn in_order(alloc: Global, flow: &Flow) -> Result<Vec<Option<u32>>, NoMemory
     requires { IsClosed flow.now.graph }
     ensures { IfOk result (λ v. IsOrdered flow.now.graph v.items) }
 {
-    ms_flow::order_told();
+    ms_flow::laws::order_told();
     let mut blocks = Vec::from_elem(alloc, None, flow.block_count() as usize)?;
     for b in 0..flow.block_count() {
         if let Some(place) = flow.order(BlockNo(b)) {
@@ -49,7 +49,7 @@ fn common_access(form: &Form, flow: &Flow, b: BlockNo, steps: &mut Steps) -> Opt
     ensures { MatchOption result ((a : Access) → IsCommon flow.now.graph form.now b.0 a → ⊥)
         (λ a. IsCommon flow.now.graph form.now b.0 a × HasList form.now a) }
 {
-    ms_flow::sources_told();
+    ms_flow::laws::sources_told();
     let mut common = if b.0 == 0 { Some(Access::Entry) } else { None };
     for slot in 0..flow.pred_count(b) {
         let edge = flow.pred(b, slot, steps);
@@ -94,7 +94,7 @@ pub fn enter_blocks(form: &mut Form, flow: &Flow, blocks: &[Option<u32>], steps:
     ensures numbers { length form.new.defs ≡ length form.old.defs }
     ensures places { KeepsPlaces form.old form.new }
 {
-    ms_flow::order_told();
+    ms_flow::laws::order_told();
     for k in 0..blocks.len() {
         let block = blocks[k];
         if let Some(b) = block {

@@ -61,7 +61,7 @@ fn try_out(form: &mut Form, flow: &Flow, b: BlockNo)
     if !form.phi_at(b) {
         return;
     }
-    ms_flow::sources_told();
+    ms_flow::laws::sources_told();
     if let Some(a) = only_other(form, flow, b) {
         take_out(form, b, a);
     }

@@ -106,7 +106,7 @@ impl Cache {
         ensures stays { AreWhatStays func.now change.now self.old self.new }
         ensures once { AreOnce self.new }
     {
-        ms_alias::tests_told();
+        ms_alias::laws::tests_told();
         self.answers.retain(
             |query: &Query, access: &mut Access| -> bool
                 ensures { (result ≡ stays_by func.entry.now alias.entry.now change.entry.now query.now) × (access.new ≡ access.old) }

@@ -31,7 +31,7 @@
 //! write, and a cut edge changes the paths; then all answers go. That what stays is the clobber in the changed function is not said here, where no
 //! path is known. Answers stand in a hash table: `get` and `put` do not go through the list, `after` does once.
 //!
-//! **What a caller may assume.** `get` is exact, and no query stands twice. `after` keeps the order and drops nothing else ([`stays_told`]); it takes
+//! **What a caller may assume.** `get` is exact, and no query stands twice. `after` keeps the order and drops nothing else ([`laws::stays_told`]); it takes
 //! no memory, nor do `new`, `get` and `count`. After `put` found no memory the list is as it was.
 //!
 //! **What a caller may not assume.** That an answer is right: the list holds what was put. `after` does not find out what the change was. The function
@@ -40,10 +40,9 @@
 
 mod cache;
 mod change;
-mod laws;
+pub mod laws;
 mod query;
 
 pub use cache::Cache;
 pub use change::Change;
-pub use laws::stays_told;
 pub use query::Query;

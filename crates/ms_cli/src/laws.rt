@@ -6,5 +6,5 @@ ghost use Rattle.ms_cli.specs.Job.{Job, IsJob, IsTold};
 pub fn one_job()
     ensures { (holds : List ℕ → Option (List ℕ)) (words : List (List ℕ)) (a b : Job) → IsTold holds words → IsJob holds words a → IsJob holds words b → a ≡ b }
 {
-    ms_output::one_output();
+    ms_output::laws::one_output();
 }

@@ -20,14 +20,14 @@
 //!
 //! **Why it is so.** The answer is defined by paths: the last counted Def on every path, with phis at the blocks that need one for these Defs. That
 //! set of phis is another one for each test, and no table of it is made: fewer Defs need phis at fewer blocks, so all that are needed are among those
-//! of the form, and it is enough to leave some out. On a reducible graph those that stay are exactly the needed ones (`ms_paths::walk_answers`). For
+//! of the form, and it is enough to leave some out. On a reducible graph those that stay are exactly the needed ones (`ms_paths::laws::walk_answers`). For
 //! one query each access is visited once at most: each Def is asked once whether it counts, and each phi is opened once. The first chain is climbed
 //! without tables; where it is left before its stop, the Defs that it passed are handed on and marked, and the search goes on behind them. From then
 //! on each Def is marked as it is asked, and a marked one is not asked again, on whatever way it is met. A phi is listed as it is first met, and the
 //! list is opened from front to back. To leave phis out, only what was found so far is looked at.
 //!
 //! **What a caller may assume.** The answer is the one that paths define, for the test that was given, and one place has one answer at most
-//! (`ms_paths::one_answer`). The instruction at which the search begins need not touch memory. Only Defs of the function are asked. Want of memory is
+//! (`ms_paths::laws::one_answer`). The instruction at which the search begins need not touch memory. Only Defs of the function are asked. Want of memory is
 //! the only fault.
 //!
 //! **What a caller may not assume.** The test has to hold of Defs of the function alone; the flow graph and the form have to be the function's, the

@@ -32,11 +32,11 @@ fn climb<W: Writes>(
     let flow = formed.flow;
     let form = formed.form;
     func.numbered();
-    ms_flow::same_paths();
-    ms_flow::order_told();
-    ms_flow::sources_told();
-    ms_paths::walk_answers();
-    ms_paths::answer_lies_on_every();
+    ms_flow::laws::same_paths();
+    ms_flow::laws::order_told();
+    ms_flow::laws::sources_told();
+    ms_paths::laws::walk_answers();
+    ms_paths::laws::answer_lies_on_every();
     match near_stop(alloc, form, counted, start)? {
         Near::Stop(found) => Ok(found),
         Near::Left { passed, at } => {

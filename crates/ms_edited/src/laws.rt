@@ -21,7 +21,7 @@ ghost use Rattle.ms_edited.specs.Samples.{block_no, local, entry, stores, loads,
 pub fn edits_keep_sound()
     ensures { (f : FuncState) (e : Edit) → IsNumbered f → IsSoundFunc f → IsFittingEdit e → IsFaultless f e → IsSoundFunc (edited f e) }
 {
-    ms_paths::part_form();
+    ms_paths::laws::part_form();
 }
 
 /// Each number stands for one thing behind such an edit, as long as there are numbers left.

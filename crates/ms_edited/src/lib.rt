@@ -25,22 +25,22 @@
 //! unlink slot 0 of block 1                       refused, 17: block 1 does not end in a conditional branch
 //! ```
 //!
-//! All of these are clauses of [`samples`], with a refusal for each number.
+//! All of these are clauses of [`laws::samples`], with a refusal for each number.
 //!
 //! **What it is.** `edited f e` is what becomes of the function `f` behind the edit `e`, and `HasFault f e why` says which faults the edit has; both are
 //! definitions of `ms_ir` (`specs/Edits.antt`). An edit is refused for the fault with the least number (`IsRefused`), and `IsFaultless` says that it has
-//! none. The laws say that the faults are enough: with none of them, [`edits_keep_sound`] and [`edits_keep_numbers`] hold. Each law is the contract of a
+//! none. The laws say that the faults are enough: with none of them, [`laws::edits_keep_sound`] and [`laws::edits_keep_numbers`] hold. Each law is the contract of a
 //! function that does nothing; a call of it brings the law into a proof.
 //!
 //! **Why it is so.** What a fault is has to be said before a program tests for it, and in the words of the function: that an operand is used before its
 //! definition is asked of the paths of the edited function, not of a tree of dominators that some code keeps. The four edits are the least with which a
 //! pass on memory can do its work: only loads, stores, copies and calls come, go or move, so no alloca leaves the first block and no phi changes but by
 //! the edge that is cut. A remove and an unlink are never refused for the order of definitions and uses, and need not be: a path on which a definition
-//! that stays is not met is one of the old function too ([`removes_keep_order`]). An edge is not cut where a phi would be left with no edge to its block, since a phi has an entry.
+//! that stays is not met is one of the old function too ([`laws::removes_keep_order`]). An edge is not cut where a phi would be left with no edge to its block, since a phi has an entry.
 //!
-//! **What a caller may assume.** For a function that is numbered and sound, and an edit that has no fault: what is left is sound ([`edits_keep_sound`];
+//! **What a caller may assume.** For a function that is numbered and sound, and an edit that has no fault: what is left is sound ([`laws::edits_keep_sound`];
 //! an inserted instruction has types that can stand and numbers within their ranges, `IsFittingEdit`, as each line of the grammar has), and numbered where
-//! there is one instruction's number left ([`edits_keep_numbers`]). So edits can be made one after another.
+//! there is one instruction's number left ([`laws::edits_keep_numbers`]). So edits can be made one after another.
 //!
 //! **What a caller may not assume.** That the function does the same as before: an edit may change each result. That an inserted call fits its callee, or
 //! that a global is there: these are asked of the module, and are no faults here. That a name which is given to an instruction without a result is looked
@@ -48,6 +48,4 @@
 //! the last number, is no fault of an edit at all.
 #![tactic(auto)]
 
-mod laws;
-
-pub use laws::{edits_keep_numbers, edits_keep_sound, removes_keep_order, samples};
+pub mod laws;

@@ -59,7 +59,7 @@ fn reads_of(func: &Func, alias: &Alias, i: InstNo, root: Root) -> Reads
     ensures { AreRead func.now i.0 root result }
 {
     func.numbered();
-    ms_live::effects_are_ranges();
+    ms_live::laws::effects_are_ranges();
     match range_of(alias.reads(func, i), root) {
         Some(span) => Reads::Range(span),
         None => {
@@ -84,7 +84,7 @@ fn writes_of(func: &Func, alias: &Alias, i: InstNo, root: Root) -> Writes
     ensures { AreWritten func.now i.0 root result }
 {
     func.numbered();
-    ms_live::effects_are_ranges();
+    ms_live::laws::effects_are_ranges();
     match range_of(alias.writes(func, i), root) {
         Some(span) => Writes::Range(span),
         None => Writes::Nothing,

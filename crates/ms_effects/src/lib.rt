@@ -23,7 +23,7 @@
 //! Why the root has to be fixed: one that a loop makes anew is another pointer in each turn, so its offsets cannot be compared.
 //!
 //! [`columns_of`] gives, in their order and each once, the bytes where those ranges begin, and where those end that are written. By
-//! `ms_live::columns_stand_for_bytes` they stand for all other bytes, so a search need not look at each byte of an object.
+//! `ms_live::laws::columns_stand_for_bytes` they stand for all other bytes, so a search need not look at each byte of an object.
 //!
 //! A caller may assume that all of this is exact: a byte is among those that are read where `MayRead` says so of it alone, and among those that are
 //! written where `MustWrite` does, and nowhere else; a number is a column where some range makes it one, and nowhere else. A range of length 0 holds no

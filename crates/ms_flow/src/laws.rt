@@ -33,7 +33,7 @@ pub fn order_told()
         (i < j) ⊎ ((p : List ℕ) × IsPath g a p × IsDistinct nat_eq (a ∷ p) × Contains (a ∷ p) b) }
     ensures order { (g : List Run) → IsClosed g → IsReducible g → IsOrder g (place_of g) }
 {
-    ms_paths::order_told();
+    ms_paths::laws::order_told();
 }
 
 /// What the edges to a block are: exactly those from reached blocks, in text order of the block that they leave, then by slot.

@@ -44,9 +44,9 @@
 //! count each edge that they answer on [`ms_ir::Steps`], so that a call above can say how many edges it reads.
 //!
 //! **What a caller may assume.** Each answer is exact, by the clause of its call. `order` is none exactly where the block is not reached. What `succ`
-//! gives is found again by `pred` at its `in_slot`. The laws say what the answers are good for. [`same_paths`]: the paths are those of the function's
-//! graph with its instructions. [`order_told`]: each edge goes up in the order, or back to a block on a path to its beginning; where the graph is
-//! reducible, back to one that every path to its beginning passes. [`sources_told`]: the edges to a block are exactly those from reached blocks, in
+//! gives is found again by `pred` at its `in_slot`. The laws say what the answers are good for. [`laws::same_paths`]: the paths are those of the function's
+//! graph with its instructions. [`laws::order_told`]: each edge goes up in the order, or back to a block on a path to its beginning; where the graph is
+//! reducible, back to one that every path to its beginning passes. [`laws::sources_told`]: the edges to a block are exactly those from reached blocks, in
 //! that order, each once.
 //!
 //! **What a caller may not assume.** `of` asks for a function that has a block and whose terminators name its own blocks. `succ` and `pred` ask for a
@@ -57,7 +57,7 @@
 #![tactic(auto)]
 
 mod flow;
-mod laws;
+pub mod laws;
 mod loops;
 mod order;
 mod search;
@@ -66,4 +66,3 @@ mod table;
 mod walker;
 
 pub use flow::{Edge, Flow};
-pub use laws::{order_told, same_paths, sources_told};

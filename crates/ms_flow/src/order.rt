@@ -94,7 +94,7 @@ pub fn is_reducible(
     ensures told { IsTrue result ↔ IsReducible table.now }
     ensures blocks { length walker.new.seen ≡ length table.now }
 {
-    ms_paths::order_told();
+    ms_paths::laws::order_told();
     for b in 0..table.len() {
         let list = &sources.lists[b as usize];
         if !are_fine(table, walker, order, list.as_slice(), b) {

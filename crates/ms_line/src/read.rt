@@ -9,7 +9,7 @@ use crate::measure::is_short_line;
 use crate::said::said;
 use crate::sort::Sort;
 use ms_grammar::{Line, RawInst};
-use ms_reread::said_again;
+use ms_reread::laws::said_again;
 use std::alloc::Global;
 
 /// What a line says. The parameters of a declared function lose their names. What is printed for the

@@ -17,8 +17,8 @@ pub fn one_output()
     ensures refusal { (bytes : List ℕ) (r s : Refusal) → IsRefusal bytes r → IsRefusal bytes s → r ≡ s }
     ensures apart { (wanted : Wanted) (bytes t : List ℕ) (r : Refusal) → IsOutput wanted bytes t → IsRefusal bytes r → ⊥ }
 {
-    ms_read::one_draft();
-    ms_session::one_annotated();
+    ms_read::laws::one_draft();
+    ms_session::laws::one_annotated();
 }
 
 /// In the functions of an accepted module allocas stand in the first block, to which no edge leads. So what is said of clobbers on every run
@@ -29,7 +29,7 @@ pub fn accepted_begin_once()
     ensures accepted { (bytes : List ℕ) (draft : List (ℕ × Line)) (m : ModuleState) → IsDraft bytes draft → IsAccepted draft m →
         (n : ℕ) (f : FuncState) → slice_get m.bodies n ≡ Some (Some f) → IsAcceptedFunc m f }
 {
-    ms_accepted::accepted_are_sound();
-    ms_accepted::functions_are_accepted();
-    ms_sound::sound_functions_begin_once();
+    ms_accepted::laws::accepted_are_sound();
+    ms_accepted::laws::functions_are_accepted();
+    ms_sound::laws::sound_functions_begin_once();
 }

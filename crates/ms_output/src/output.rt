@@ -70,9 +70,9 @@ fn render_draft(alloc: Global, wanted: Wanted, draft: &Draft) -> Result<Text, Un
     requires { (bytes : List ℕ) × IsDraft bytes draft.now }
     ensures { RendersDraft wanted draft.now result }
 {
-    ms_read::draft_told();
-    ms_read::places_told();
-    ms_accepted::accepted_are_sound();
+    ms_read::laws::draft_told();
+    ms_read::laws::places_told();
+    ms_accepted::laws::accepted_are_sound();
     let mut module = match accept(alloc, draft) {
         Ok(module) => module,
         Err(fault) => return Err(unaccepted(alloc, draft, fault)),

@@ -11,7 +11,7 @@ use Rattle.ms_paths.proofs.Reduce.{reached_in, on_contains}
 use Rattle.ms_paths.proofs.Forms.{any_at, same_told}
 use Rattle.ms_paths.proofs.Through.{Through, fresh, through_needed}
 use Rattle.ms_paths.proofs.OneMore.{past_q, not_before, one_block}
-use Rattle.ms_paths.proofs.Laws.{needed_suffice, needed_told, same_begun}
+use Rattle.ms_paths.proofs.Stated.{needed_suffice, needed_told, same_begun}
 use Rattle.ms_paths.proofs.Stands.{taken, taken_in, got, stands_in, stands_once, last_step, last_past, last_whole, met_more, met_step, met_past, met_start, met_whole, whole_met}
 
 has_q : (g : List Block) (q b : ℕ) → Contains (block_at g b).events q → has g (just q) b ≡ true

@@ -9,7 +9,7 @@ use Rattle.ms_paths.proofs.Bridge.{any_of, has, after_some, after_none, named, l
 use Rattle.ms_paths.proofs.Reduce.{reached_in}
 use Rattle.ms_paths.proofs.Forms.{any_at}
 use Rattle.ms_paths.proofs.Through.{Through, avoids_both, through_needed}
-use Rattle.ms_paths.proofs.Laws.{needed_more}
+use Rattle.ms_paths.proofs.Stated.{needed_more}
 
 named_phi : (g : List Block) (E : ℕ → Bool) (o : Option ℕ) (b : ℕ) → named g E o ≡ Phi b → (o ≡ Some b) × (has g E b ≡ false)
 named_phi g E None b e = cc

@@ -13,7 +13,7 @@ use Rattle.ms_paths.proofs.Region.{inside}
 use Rattle.ms_paths.proofs.Forms.{enters_last}
 use Rattle.ms_paths.proofs.Through.{fresh}
 use Rattle.ms_paths.proofs.OneMore.{avoids_at}
-use Rattle.ms_paths.proofs.Laws.{after_of, entered_of, last_of_met}
+use Rattle.ms_paths.proofs.Stated.{after_of, entered_of, last_of_met}
 use Rattle.std.proofs.lemmas.Option.{slice_get-get_or}
 
 for_def_itself : (d : ℕ) (w : Event) → (w ≡ Of d → ⊥) → for_def d w w ≡ w

@@ -8,7 +8,7 @@ use Rattle.std.proofs.lemmas.List.Elements.{Contains-get_or}
 use Rattle.ms_paths.specs.Flow.{Block, block_at, HasEdge, IsReached, Event, Of, Phi, Entry, after, entered, last_event, IsAnswer, StandsOnce, IsReducible, IsClosed, Runs, IsRegion, IsForm, NoIdlePhi}
 use Rattle.ms_paths.specs.Walk.{IsDefining, IsResolved}
 use Rattle.ms_paths.proofs.Forms.{runs_has, after_any, form_answers}
-use Rattle.ms_paths.proofs.Laws.{needed_told}
+use Rattle.ms_paths.proofs.Stated.{needed_told}
 use Rattle.ms_paths.proofs.Ran.{after_append}
 
 after_end : (E : ℕ → Bool) (is : List ℕ) (i : ℕ) (e : Event) → after E (is ++ i ∷ []) e ≡ cond (E i) (Of i) (after E is e)

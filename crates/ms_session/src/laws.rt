@@ -8,5 +8,5 @@ ghost use Rattle.ms_session.specs.Annotated.{IsAnnotated};
 pub fn one_annotated()
     ensures { (names : NamesState) (f : FuncState) (t u : List ℕ) → IsAnnotated names f t → IsAnnotated names f u → t ≡ u }
 {
-    ms_paths::one_answer();
+    ms_paths::laws::one_answer();
 }

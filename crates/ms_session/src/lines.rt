@@ -76,8 +76,8 @@ pub fn inst_line(
         IsShownLine of.now.func.now numbers.now.all b place x (defining_at of.now.form.now i.0) (kind_of_inst x.inst) (line_text line)) }
 {
     of.func.numbered();
-    ms_flow::same_paths();
-    ms_flow::order_told();
+    ms_flow::laws::same_paths();
+    ms_flow::laws::order_told();
     let last = match of.form.defining(i) {
         Some(last) => last,
         None => return Ok(None),

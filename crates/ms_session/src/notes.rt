@@ -68,10 +68,10 @@ pub fn annotated(alloc: Global, names: &Names, of: &Pointed) -> Result<Text, NoM
     ensures { IfOk result (λ text. IsAnnotated names.now of.now.func.now text) }
 {
     of.func.numbered();
-    ms_paths::one_answer();
-    ms_flow::same_paths();
-    ms_flow::order_told();
-    ms_flow::sources_told();
+    ms_paths::laws::one_answer();
+    ms_flow::laws::same_paths();
+    ms_flow::laws::order_told();
+    ms_flow::laws::sources_told();
     let numbers = number_all(alloc, of.func, of.flow, of.form)?;
     let labels = block_labels(alloc, of.func)?;
     let notes = Notes {

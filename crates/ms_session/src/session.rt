@@ -71,7 +71,7 @@ impl Session {
         requires near { AreOffsetsNear func }
         ensures { IfOk result (λ s. s ≡ func) }
     {
-        ms_flow::same_paths();
+        ms_flow::laws::same_paths();
         let flow = Flow::of(alloc, &func)?;
         let form = build(alloc, &func, &flow)?;
         let alias = Alias::of(alloc, &func, &flow)?;
@@ -91,8 +91,8 @@ impl Session {
         ensures walks { IfOk result (λ p. HasUses self.old p.walks) }
         ensures same { self.new ≡ self.old }
     {
-        ms_flow::same_paths();
-        ms_flow::order_told();
+        ms_flow::laws::same_paths();
+        ms_flow::laws::order_told();
         let of = Pointed {
             func: &self.func,
             flow: &self.flow,
@@ -134,7 +134,7 @@ impl Session {
         requires { b.0 < length self.now.blocks }
         ensures { IsTrue result ↔ IsReached (graph_of self.now.blocks) b.0 }
     {
-        ms_flow::same_paths();
+        ms_flow::laws::same_paths();
         self.flow.reached(b)
     }
 
@@ -145,7 +145,7 @@ impl Session {
         ensures cuts { IsTrue result ↔ IsOnEveryPath (graph_of self.old.blocks) h.0 b.0 }
         ensures same { self.new ≡ self.old }
     {
-        ms_flow::same_paths();
+        ms_flow::laws::same_paths();
         self.flow.cuts(h, b)
     }
 

@@ -65,7 +65,7 @@ fn at_end(
     requires reducible { IsReducible flow.now.graph }
     requires form { IsFormOf func.now form.now }
 {
-    ms_flow::same_paths();
+    ms_flow::laws::same_paths();
     assert!(rt; b < flow.block_count());
     assert!(rt; flow.reached(BlockNo(b)));
     let counted = Only { func, number };
@@ -89,7 +89,7 @@ fn before(
     requires reducible { IsReducible flow.now.graph }
     requires form { IsFormOf func.now form.now }
 {
-    ms_flow::same_paths();
+    ms_flow::laws::same_paths();
     let (b, _) = func.place_of(InstNo(i)).expect(rt, "the instruction");
     assert!(rt; b.0 < flow.block_count());
     assert!(rt; flow.reached(b));
@@ -174,7 +174,7 @@ fn times_asked(
     requires reducible { IsReducible flow.now.graph }
     requires form { IsFormOf func.now form.now }
 {
-    ms_flow::same_paths();
+    ms_flow::laws::same_paths();
     let times = Vec::from_elem(alloc, Cell::new(0), func.made() as usize);
     let times = times.ok().expect(rt, "memory");
     assert!(rt; b < flow.block_count());

@@ -46,7 +46,7 @@ pub fn expect_near(rt: &impl Abort, f: &Func)
 fn expect_loops(rt: &impl Abort, alloc: Global, f: &Func)
     ensures { IsReducible (graph_of f.now.blocks) }
 {
-    ms_flow::same_paths();
+    ms_flow::laws::same_paths();
     let flow = flow_of(rt, alloc, f);
     expect_reducible(rt, &flow);
 }

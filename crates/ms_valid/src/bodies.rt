@@ -65,7 +65,7 @@ fn is_irreducible(alloc: Global, m: &Module, f: FuncNo) -> Result<bool, NoMemory
     requires { AreClosed m.now }
     ensures { IfOk result (λ t. IsTrue t ↔ IsIrreducible m.now f.0) }
 {
-    ms_flow::same_paths();
+    ms_flow::laws::same_paths();
     match m.func(f) {
         Some(func) => {
             let flow = Flow::of(alloc, func)?;

@@ -32,9 +32,9 @@
 //! uses is asked of paths and not of dominators: no use in a block that no path reaches is at fault.
 //!
 //! **What a caller may assume.** `Ok` comes with the module of the draft's lines, and it is accepted (`IsAccepted`); each fault but `Memory` is the
-//! cause, and no other (`IsValidCause`). No draft has both (`ms_output::one_output`), so one that has a module is not refused. Of a module that was
+//! cause, and no other (`IsValidCause`). No draft has both (`ms_output::laws::one_output`), so one that has a module is not refused. Of a module that was
 //! read and accepted the crates above say more: its functions are sound (`ms_accepted`), its allocas stand in first blocks
-//! (`ms_output::accepted_begin_once`), its printed text, where it is shorter than 10^9 bytes, is read and accepted as the same module (`ms_again`).
+//! (`ms_output::laws::accepted_begin_once`), its printed text, where it is shorter than 10^9 bytes, is read and accepted as the same module (`ms_again`).
 //!
 //! **What a caller may not assume.** `accept` asks for a draft whose lines stand where they may, as `ms_read::read_module` gives it. It does not look
 //! at limits, which were looked at there, nor at what kept text says, attributes apart that have a meaning. `Memory` says nothing of the draft. That

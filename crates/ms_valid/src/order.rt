@@ -28,7 +28,7 @@ fn comes_without(flow: &mut Flow, first: Spot, at: Spot) -> bool
     ensures told { IsTrue result ↔ ((p : List ℕ) × IsPath flow.old.graph at.block p × (IsPassed first at p → ⊥)) }
     ensures same { flow.new ≡ flow.old }
 {
-    ms_flow::order_told();
+    ms_flow::laws::order_told();
     if at.block >= flow.block_count() {
         return false;
     }
@@ -56,7 +56,7 @@ fn is_before(func: &Func, flow: &mut Flow, spots: &[Spot], used: Used) -> bool
     ensures told { IsTrue result ↔ IsUsedBefore func.now (as_use used) }
     ensures same { flow.new ≡ flow.old }
 {
-    ms_flow::same_paths();
+    ms_flow::laws::same_paths();
     func.numbered();
     match used.val {
         Val::Local(l) => match func.def_of(l) {

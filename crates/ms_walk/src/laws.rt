@@ -13,7 +13,7 @@ pub fn one_clobber()
     ensures at { (f : FuncState) (b k : ℕ) (loc : Loc) (d e : Event) → IsReached (graph_of f.blocks) b → IsClobberAt f b k loc d → IsClobberAt f b k loc e → d ≡ e }
     ensures one { (f : FuncState) (i : ℕ) (loc : Loc) (d e : Event) → IsNumbered f → IsClobber f i loc d → IsClobber f i loc e → d ≡ e }
 {
-    ms_paths::one_answer();
+    ms_paths::laws::one_answer();
 }
 
 /// A clobber holds on every run of a function whose allocas stand in the first block, to which no edge leads: from when it took place last up
@@ -21,5 +21,5 @@ pub fn one_clobber()
 pub fn clobber_holds()
     ensures { (f : FuncState) (i : ℕ) (loc : Loc) (e : Event) → IsNumbered f → BeginsOnce f → IsClobber f i loc e → IsSound f i loc e }
 {
-    ms_sound::clobbers_are_sound();
+    ms_sound::laws::clobbers_are_sound();
 }

@@ -38,10 +38,10 @@
 //! that it meets whether it may write the location, opens the phis, and leaves out those whose ways all lead to one access (`ms_climb`); what may
 //! write is told by the pointers (`ms_alias`). At `loop` one way leads to 1, the other over 3 to the phi itself, so the phi is left out.
 //!
-//! **What a caller may assume.** The answer is the clobber, by the clause `clobber`; there is one at most ([`one_clobber`]). It holds on every run,
+//! **What a caller may assume.** The answer is the clobber, by the clause `clobber`; there is one at most ([`laws::one_clobber`]). It holds on every run,
 //! by the clause `sound`: from when it took place last up to the instruction, no step writes a byte of the location, which are counted from where its
-//! root points to when the instruction is about to run. That asks that allocas stand in the first block, to which no edge leads; [`clobber_holds`]
-//! says the same of any clobber, however it was found. An instruction that is the answer lies on every path (`ms_paths::answer_lies_on_every`). Want
+//! root points to when the instruction is about to run. That asks that allocas stand in the first block, to which no edge leads; [`laws::clobber_holds`]
+//! says the same of any clobber, however it was found. An instruction that is the answer lies on every path (`ms_paths::laws::answer_lies_on_every`). Want
 //! of memory is the only fault.
 //!
 //! **What a caller may not assume.** A clobber may write the location, and may also leave it as it is; what must be written is told by
@@ -50,11 +50,10 @@
 //! flow graph, the form and the pointers have to be the function's, its loops reducible, and the instruction in a reached block.
 #![tactic(auto)]
 
-mod laws;
+pub mod laws;
 mod pointed;
 mod search;
 mod writers;
 
-pub use laws::{clobber_holds, one_clobber};
 pub use pointed::Pointed;
 pub use search::walk;

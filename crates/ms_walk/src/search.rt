@@ -43,8 +43,8 @@ pub fn walk(
     ensures sound { BeginsOnce func.now → IfOk result (λ a. IsSound func.now i.0 loc.now (event_of a)) }
 {
     func.numbered();
-    ms_alias::tests_told();
-    ms_sound::clobbers_are_sound();
+    ms_alias::laws::tests_told();
+    ms_sound::laws::clobbers_are_sound();
     let writers = Writers { func, alias, loc };
     let formed = Formed { func, flow, form };
     Ok(last_before(alloc, &formed, &writers, i)?)

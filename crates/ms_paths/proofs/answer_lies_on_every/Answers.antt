@@ -1,5 +1,0 @@
-use Rattle.ms_paths.proofs.Laws.{answer_lies}
-use Rattle.ms_paths.proofs.answer_lies_on_every.Goals as goal
-
-pub returns : goal.returns
-returns c = answer_lies

@@ -1,5 +1,0 @@
-use Rattle.ms_paths.proofs.Ran.{between}
-use Rattle.ms_paths.proofs.between.Goals as goal
-
-pub returns : goal.returns
-returns c = between

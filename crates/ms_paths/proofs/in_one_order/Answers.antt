@@ -1,5 +1,0 @@
-use Rattle.ms_paths.proofs.Before.{one_before, not_both}
-use Rattle.ms_paths.proofs.in_one_order.Goals as goal
-
-pub returns : goal.returns
-returns c = record { one = one_before; not_both = not_both }

@@ -1,5 +1,0 @@
-use Rattle.ms_paths.proofs.Removed.{same_needs}
-use Rattle.ms_paths.proofs.same_needs.Goals as goal
-
-pub returns : goal.returns
-returns c = same_needs

@@ -1,5 +1,0 @@
-use Rattle.ms_paths.proofs.Walks.{walk_answers}
-use Rattle.ms_paths.proofs.walk_answers.Goals as goal
-
-pub returns : goal.returns
-returns c = walk_answers
