@@ -196,7 +196,7 @@ const NAMES: [(&str, u32, u32); 42] = [
         5,
     ),
     (
-        "define void @f() {\n  br label %b\nb:\n  br label %b\nc:\n  %b = alloca i8\n  store i8 0, ptr %b\n  ret void\n}\n",
+        "define i8 @f(ptr %p) {\n  br label %b\nb:\n  br label %b\nc:\n  %b = load i8, ptr %p\n  ret i8 %b\n}\n",
         3,
         6,
     ),
