@@ -1,10 +1,9 @@
 -- The instruction that makes a turning root.
-use Rattle.std.proofs.Common.{◌≡◌, ◌↔◌, ℕ, ℤ, Bool, true, false, List, Option, Some, None, sym, ap, ◌∙◌, subst}
+use Rattle.std.proofs.Common.{◌≡◌, ◌↔◌, ℕ, ℤ, true, false, Option, Some, None, sym, ap, ◌∙◌, subst}
 use Rattle.std.specs.Prelude.{slice_get, MatchOption, IfSome}
 use Rattle.std.proofs.lemmas.Bool.{both_ways}
 use Rattle.ms_ir.specs.declared.names.LocalNo.{LocalNo}
 use Rattle.ms_ir.specs.declared.names.InstNo.{InstNo}
-use Rattle.ms_ir.specs.declared.inst.Arg.{Arg}
 use Rattle.ms_ir.specs.Func.{Placed, FuncState, IsAt, insts_at}
 use Rattle.ms_ir.specs.Locals.{IsGiver, IsUngiven, IsNumbered}
 use Rattle.ms_alias.specs.declared.loc.Root.{Root}
@@ -90,15 +89,12 @@ pub loc_turning_one : (f : FuncState) (a : AliasState) → IsAliasOf f a → (lo
 loc_turning_one f a is loc ou hu root from len e None h = h
 loc_turning_one f a is loc ou hu root from len e (Some i) h = loc_turned_once f a is loc ou hu root from len i.0 e h
 
--- what a call reads has no root
-pub call_still : (f : FuncState) (a : AliasState) → IsAliasOf f a → (loc : Loc) (ou : Option Reach) → ((u : Reach) → (ou ≡ Some u) ↔ IsReachBy f a.origins loc u)
-    → (args : List Arg) (other hidden : Bool) → ou ≡ Some (Called args other hidden) → (q : ℕ) → IsLocTurnedBy f loc q → ⊥
-call_still f a is loc ou hu args other hidden e = loc_still f a is loc ou hu (λ r from len q s t. clash r from len (sym s ∙ e)) where
-  clash : (r : Root) (from : ℤ) (len : ℕ) → Some (Span r from len) ≡ Some (Called args other hidden) → ⊥
-  clash r from len s = cc
+-- no bytes of a root
+abbrev pub IsNoSpan : Option Reach → Type 0
+IsNoSpan None = Unit {0}
+IsNoSpan (Some (Span r from len)) = ⊥
+IsNoSpan (Some (Called args other hidden)) = Unit {0}
 
-pub nothing_still : (f : FuncState) (a : AliasState) → IsAliasOf f a → (loc : Loc) (ou : Option Reach) → ((u : Reach) → (ou ≡ Some u) ↔ IsReachBy f a.origins loc u)
-    → ou ≡ None → (q : ℕ) → IsLocTurnedBy f loc q → ⊥
-nothing_still f a is loc ou hu e = loc_still f a is loc ou hu (λ r from len q s t. clash r from len (sym s ∙ e)) where
-  clash : (r : Root) (from : ℤ) (len : ℕ) → Some (Span r from len) ≡ None → ⊥
-  clash r from len s = cc
+pub unrooted_still : (f : FuncState) (a : AliasState) → IsAliasOf f a → (loc : Loc) (ou : Option Reach) → ((u : Reach) → (ou ≡ Some u) ↔ IsReachBy f a.origins loc u)
+    → (w : Option Reach) → ou ≡ w → IsNoSpan w → (q : ℕ) → IsLocTurnedBy f loc q → ⊥
+unrooted_still f a is loc ou hu w e none = loc_still f a is loc ou hu (λ r from len q s t. subst IsNoSpan (sym e ∙ s) none)

@@ -11,7 +11,7 @@ use Rattle.ms_ir.specs.declared.inst.Val.{Val}
 use Rattle.ms_ir.specs.declared.inst.Val.TheVariants.{Num, Local, Global}
 use Rattle.ms_ir.specs.declared.inst.Entry.{Entry}
 use Rattle.ms_ir.specs.declared.inst.Inst.{Inst}
-use Rattle.ms_ir.specs.declared.inst.Inst.TheVariants.{Alloca, Gep, Load, Store, Copy, Call, Bin, Cmp, Select, Cast, Phi}
+use Rattle.ms_ir.specs.declared.inst.Inst.TheVariants.{Alloca, Gep, Step, Load, Store, Copy, Call, Bin, Cmp, Select, Cast, Phi}
 use Rattle.ms_ir.specs.declared.inst.Term.{Term}
 use Rattle.ms_ir.specs.Func.{Placed, Block, FuncState, insts_at}
 use Rattle.ms_ir.specs.Graph.{graph_of, successors, numbers}
@@ -242,6 +242,7 @@ module _ (f : FuncState) (dead : ℕ → Bool) (none : (b k : ℕ) (x : Placed) 
   inst_used b k (Phi ty entries tail) = moved_in dead f.blocks (entry_use f.blocks) (entry_use g.blocks) entry_moved entries
   inst_used b k (Alloca size head tail) = operands_used b k (operands_of (Alloca size head tail))
   inst_used b k (Gep base offset head index tail) = operands_used b k (operands_of (Gep base offset head index tail))
+  inst_used b k (Step base offset terms head index tail) = operands_used b k (operands_of (Step base offset terms head index tail))
   inst_used b k (Load ty ptr tail) = operands_used b k (operands_of (Load ty ptr tail))
   inst_used b k (Store ty val ptr tail) = operands_used b k (operands_of (Store ty val ptr tail))
   inst_used b k (Copy to from len head tail) = operands_used b k (operands_of (Copy to from len head tail))

@@ -1,6 +1,6 @@
-use Rattle.std.proofs.Common.{Some, ap, ◌∙◌}
+use Rattle.std.proofs.Common.{Some, None, ap, ◌∙◌}
 use Rattle.ms_alias.specs.Tables.{reach_in}
-use Rattle.ms_alias.proofs.Turns.{loc_turning_made, loc_turning_one, call_still, nothing_still}
+use Rattle.ms_alias.proofs.Turns.{loc_turning_made, loc_turning_one, unrooted_still}
 use Rattle.ms_alias.proofs.alias.Alias.turning_of.Goals as goal
 
 pub returns-in-Some-Span-clause-made : goal.returns-in-Some-Span-clause-made
@@ -16,7 +16,7 @@ returns-in-Some-Span-clause-one c =
 pub returns-in-Some-Call-clause-made : goal.returns-in-Some-Call-clause-made
 returns-in-Some-Call-clause-made c =
     let p = c.in-Some-Call in
-    call_still c.args.func.now c.args.self.now c.requires c.args.loc.now (reach_in c.loc_touch.result) c.loc_touch.ensures p.field-0-0.now p.field-0-1 p.field-0-2 (ap reach_in (p.is ∙ ap Some p.field-0-is))
+    unrooted_still c.args.func.now c.args.self.now c.requires c.args.loc.now (reach_in c.loc_touch.result) c.loc_touch.ensures _ (ap reach_in (p.is ∙ ap Some p.field-0-is)) tt
 
 pub returns-in-None-clause-made : goal.returns-in-None-clause-made
-returns-in-None-clause-made c = nothing_still c.args.func.now c.args.self.now c.requires c.args.loc.now (reach_in c.loc_touch.result) c.loc_touch.ensures (ap reach_in c.in-None.is)
+returns-in-None-clause-made c = unrooted_still c.args.func.now c.args.self.now c.requires c.args.loc.now (reach_in c.loc_touch.result) c.loc_touch.ensures None (ap reach_in c.in-None.is) tt
