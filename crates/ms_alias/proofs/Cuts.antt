@@ -1,9 +1,7 @@
 -- What the cut of an edge leaves of a function's pointers: phis lose entries, and nothing else changes.
 use Rattle.std.proofs.Common.{◌≡◌, ◌<◌, ◌∙◌, ℕ, zero, suc, ℤ, Bool, true, false, cond, List, [], ◌∷◌, Option, Some, None, length, get_or, map, set, refl, sym, ap, subst, inl, inr, arith}
 use Rattle.std.specs.Prelude.{◌&&◌, Contains, position, remove}
-use Rattle.ms_ir.specs.declared.names.BlockNo.{BlockNo}
 use Rattle.ms_ir.specs.declared.names.LocalNo.{LocalNo}
-use Rattle.ms_ir.specs.declared.names.GlobalNo.{GlobalNo}
 use Rattle.ms_ir.specs.declared.inst.Val.{Val}
 use Rattle.ms_ir.specs.declared.inst.Entry.{Entry}
 use Rattle.ms_ir.specs.declared.inst.Inst.{Inst}
@@ -11,7 +9,7 @@ use Rattle.ms_ir.specs.declared.inst.Inst.TheVariants.{Phi}
 use Rattle.ms_ir.specs.declared.inst.Term.{Term}
 use Rattle.ms_ir.specs.declared.inst.Term.TheVariants.{Br}
 use Rattle.ms_ir.specs.Func.{Placed, Block, FuncState, no_block, insts_at}
-use Rattle.ms_ir.specs.Changes.{is_from, without, without_first, inst_without, placed_without, with_entry_lost, with_term, with_edge_cut, kept_target, cut_target}
+use Rattle.ms_ir.specs.Changes.{is_from, without, inst_without, placed_without, with_entry_lost, with_term, with_edge_cut, kept_target, cut_target}
 use Rattle.ms_alias.specs.declared.loc.Root.{Root}
 use Rattle.ms_alias.specs.declared.loc.Root.TheVariants.{Local, Global}
 use Rattle.ms_alias.specs.declared.sets.Set.{Set}

@@ -17,3 +17,4 @@ pub mod Asked
 pub mod Edits
 pub mod Same
 pub mod Cuts
+pub mod Turns

@@ -19,8 +19,8 @@ use Rattle.ms_alias.specs.Roots.{pointer_of, IsFixed}
 use Rattle.ms_alias.specs.Bases.{Base, Alloca as AllocaBase, Argument as ArgumentBase, Object as ObjectBase, Outside, Hidden, HasBase, HasValBase, IsNamed, IsBrought}
 use Rattle.ms_alias.specs.Captured.{IsCaptured}
 use Rattle.ms_alias.specs.Reaches.{Reach, Span, Called, IsKnown, IsReached}
-use Rattle.ms_alias.specs.Meeting.{MayBeOne, IsOuterBase, ShareBase, Meet}
-use Rattle.ms_alias.specs.Tables.{AliasState, BasesState, same_root, row_of, set_of, have_common, has_argument, has_outer, sets_meet, is_caught, is_known, set_of_option, val_set, args_meet, call_meets, call_meets_args, are_known, calls_meet, ranges_meet, is_turning, spans_meet, reaches_meet, IsSet, IsBases, IsCaptures, IsAliasOf, base_of}
+use Rattle.ms_alias.specs.Meeting.{MayBeOne, IsOuterBase, ShareBase, Meet, MeetInTurn}
+use Rattle.ms_alias.specs.Tables.{AliasState, BasesState, same_root, row_of, set_of, have_common, has_argument, has_outer, sets_meet, is_caught, is_known, set_of_option, val_set, args_meet, call_meets, call_meets_args, are_known, calls_meet, ranges_meet, is_turning, spans_meet, reaches_meet, reaches_meet_in_turn, IsSet, IsBases, IsCaptures, IsAliasOf, base_of}
 use Rattle.ms_alias.proofs.Makers.{is_number}
 use Rattle.ms_alias.proofs.Meets.{plain, sets_from, sets_to, outer_from, outer_to, shared_from, shared_to}
 use Rattle.ms_alias.proofs.RootLemmas.{turning_from, turning_to}
@@ -441,3 +441,54 @@ reaches_to f a is (Called args other hidden) (Span r from len) (inr m) =
 reaches_to f a is (Called args other hidden) (Called args_2 other_2 hidden_2) (inl m) = absurd m.0
 reaches_to f a is (Called args other hidden) (Called args_2 other_2 hidden_2) (inr m) =
     calls_to a.bases f a.captured is.bases is.captured args other hidden args_2 other_2 hidden_2 m.3
+
+-- the test of two reaches says whether they meet while roots stay what they are
+pub in_turn_from : (f : FuncState) (a : AliasState) → IsAliasOf f a → (u v : Reach) → reaches_meet_in_turn a u v ≡ true → MeetInTurn f u v
+in_turn_from f a is (Span r from len) (Span s at size) e =
+    ⊎_elim
+    (λ (one : same_root r s ≡ true).
+    inl (root_is r s one, ranges_from from at len size (sym (cond-true (same_root r s) (ranges_meet from len at size) (spans_meet a r from len s at size) one) ∙ e)))
+    (λ (two : same_root r s ≡ false).
+    inr ((λ (h : r ≡ s). both_ways (same_root r s) two (subst (λ x. same_root r x ≡ true) h (root_same r))), spans_from f a is r s from at len size (sym (cond-false (same_root r s) (ranges_meet from len at size) (spans_meet a r from len s at size) two) ∙ e)))
+    (cases_Bool (same_root r s))
+in_turn_from f a is (Span r from len) (Called args other hidden) e = inr ((λ (z : ⊥). z), reaches_from f a is (Span r from len) (Called args other hidden) e)
+in_turn_from f a is (Called args other hidden) v e = inr ((λ (z : ⊥). z), reaches_from f a is (Called args other hidden) v e)
+
+pub in_turn_to : (f : FuncState) (a : AliasState) → IsAliasOf f a → (u v : Reach) → MeetInTurn f u v → reaches_meet_in_turn a u v ≡ true
+in_turn_to f a is (Span r from len) (Span s at size) (inl h) =
+    let one : same_root r s ≡ true = subst (λ x. same_root r x ≡ true) h.0 (root_same r) in
+    cond-true (same_root r s) (ranges_meet from len at size) (spans_meet a r from len s at size) one ∙ ranges_to from at len size h.1
+in_turn_to f a is (Span r from len) (Span s at size) (inr h) =
+    let two : same_root r s ≡ false = ⊎_elim (λ (t : same_root r s ≡ true). absurd (h.0 (root_is r s t))) (λ (o : same_root r s ≡ false). o) (cases_Bool (same_root r s)) in
+    cond-false (same_root r s) (ranges_meet from len at size) (spans_meet a r from len s at size) two ∙ spans_to f a is r s from at len size h.1
+in_turn_to f a is (Span r from len) (Called args other hidden) (inl h) = absurd h.0
+in_turn_to f a is (Span r from len) (Called args other hidden) (inr h) = reaches_to f a is (Span r from len) (Called args other hidden) h.1
+in_turn_to f a is (Called args other hidden) v (inl h) = absurd h.0
+in_turn_to f a is (Called args other hidden) v (inr h) = reaches_to f a is (Called args other hidden) v h.1
+
+named_one : (f : FuncState) (p : Root) (b : Base) → HasBase f p b → MayBeOne b b
+named_one f p (AllocaBase l) h = refl
+named_one f p (ArgumentBase l) h = tt
+named_one f p (ObjectBase g) h = refl
+named_one f p Outside h = tt
+named_one f p Hidden h = tt
+
+-- what meets while roots stay what they are meets at all, where each root has a base
+pub at_all : (f : FuncState) (a : AliasState) → IsAliasOf f a → (u v : Reach) → ((r : Root) (from : ℤ) (len : ℕ) → v ≡ Span r from len → (b : Base) × HasBase f r b) → MeetInTurn f u v → Meet f u v
+at_all f a is (Span r from len) (Span s at size) based (inl h) =
+    let k : ℤ = h.1.0 in
+    let k0 : from ≤ℤ k = h.1.1.0 in
+    let k1 : k <ℤ (from +ℤ pos len) = h.1.1.1 in
+    let k2 : at ≤ℤ k = h.1.2.0 in
+    let k3 : k <ℤ (at +ℤ pos size) = h.1.2.1 in
+    let l : 0 < len = omega (arith, ints) in
+    let m : 0 < size = omega (arith, ints) in
+    let base = based s at size refl in
+    ⊎_elim
+    (λ (t : is_turning a.turning r ≡ true).
+    inr ((λ (o : (r ≡ s) × IsFixed f r). o.1 (turning_from f a.turning is.turning r t)), l, m, (base.0, base.0, subst (λ x. HasBase f x base.0) (sym h.0) base.1, base.1, named_one f s base.0 base.1)))
+    (λ (o : is_turning a.turning r ≡ false). inl ((h.0, λ turns. both_ways (is_turning a.turning r) o (turning_to f a.turning is.turning r turns)), h.1))
+    (cases_Bool (is_turning a.turning r))
+at_all f a is (Span r from len) (Called args other hidden) based (inl h) = absurd h.0
+at_all f a is (Called args other hidden) v based (inl h) = absurd h.0
+at_all f a is u v based (inr h) = h.1

@@ -4,7 +4,7 @@ use Rattle.ms_ir.specs.Func.{Placed, FuncState, IsAt}
 use Rattle.ms_meaning.specs.Memory.{HoldsByte}
 use Rattle.ms_alias.specs.declared.loc.Root.{Root}
 use Rattle.ms_alias.specs.declared.loc.Loc.{Loc}
-use Rattle.ms_alias.specs.Roots.{IsFixed}
+use Rattle.ms_alias.specs.Roots.{IsFixed, IsTurnedBy}
 use Rattle.ms_alias.specs.Bases.{Base, Alloca, Argument, Object, Outside, Hidden, HasBase}
 use Rattle.ms_alias.specs.Reaches.{Reach, Span, Called, IsRead, IsWritten, IsReachOf, IsReached}
 
@@ -64,6 +64,10 @@ MeetInTurn f u v = (AreOneRoot u v × ShareByte u v) ⊎ ((AreOneRoot u v → �
 -- what instruction i writes meets the location, as long as the location's root is not made anew
 abbrev pub MayWriteInTurn : FuncState → ℕ → Loc → Type 0
 MayWriteInTurn f i loc = (b : ℕ) × (place : ℕ) × (x : Placed) × IsAt f.blocks i b place x × (u : Reach) × (v : Reach) × IsWritten f x.inst u × IsReachOf f loc v × MeetInTurn f u v
+
+-- the instruction of number q makes the root of the location's bytes, which is turning
+abbrev pub IsLocTurnedBy : FuncState → Loc → ℕ → Type 0
+IsLocTurnedBy f loc q = (r : Root) × (from : ℤ) × (len : ℕ) × IsReachOf f loc (Span r from len) × IsTurnedBy f r q
 
 -- what instruction i reads meets the location
 abbrev pub MayRead : FuncState → ℕ → Loc → Type 0

@@ -232,10 +232,17 @@ reaches_meet a (Span r from len) (Called args other hidden) = nat_lt 0 len && ca
 reaches_meet a (Called args other hidden) (Span r from len) = nat_lt 0 len && call_meets a.bases a.captured args other (set_of a.bases r)
 reaches_meet a (Called args other hidden) (Called args_2 other_2 hidden_2) = calls_meet a.bases a.captured args other hidden args_2 other_2 hidden_2
 
-abbrev pub meet_in : AliasState → Option Reach → Option Reach → Bool
-meet_in a None v = false
-meet_in a (Some u) None = false
-meet_in a (Some u) (Some v) = reaches_meet a u v
+-- two reaches meet while roots stay what they are
+abbrev pub reaches_meet_in_turn : AliasState → Reach → Reach → Bool
+reaches_meet_in_turn a (Span r from len) (Span s at size) = if same_root r s then ranges_meet from len at size else spans_meet a r from len s at size
+reaches_meet_in_turn a (Span r from len) (Called args other hidden) = reaches_meet a (Span r from len) (Called args other hidden)
+reaches_meet_in_turn a (Called args other hidden) v = reaches_meet a (Called args other hidden) v
+
+-- both are there, and meet by the test
+abbrev pub meet_in : (Reach → Reach → Bool) → Option Reach → Option Reach → Bool
+meet_in meets None v = false
+meet_in meets (Some u) None = false
+meet_in meets (Some u) (Some v) = meets u v
 
 -- byte k is one of so many from an offset on
 abbrev pub holds_byte : ℤ → ℕ → ℤ → Bool

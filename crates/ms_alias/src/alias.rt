@@ -1,5 +1,5 @@
 // What the instructions of a function may read and write.
-ghost use Rattle.std.specs.Prelude.{◌≡◌, ◌<◌, ◌≤◌, ◌+ℤ◌, ◌↔◌, ℕ, ℤ, pos, int_lt, IsTrue, IfOk, length, Some, None, if◌then◌else◌, [], slice_index_or, false};
+ghost use Rattle.std.specs.Prelude.{◌≡◌, ◌<◌, ◌≤◌, ◌+ℤ◌, ◌↔◌, ℕ, ℤ, pos, int_lt, IsTrue, IfOk, IfSome, MatchOption, length, Some, None, if◌then◌else◌, [], slice_index_or, false};
 ghost use Rattle.ms_alias.specs.Tables.{ranges_meet, holds_byte};
 
 use crate::captures::{caught_at, mark_others, recount};
@@ -86,12 +86,12 @@ impl Alias {
     ghost use Rattle.ms_ir.specs.Func.{FuncState};
     ghost use Rattle.ms_flow.specs.Table.{edges_of};
     ghost use Rattle.ms_alias.specs.Offsets.{AreOffsetsNear};
-    ghost use Rattle.ms_alias.specs.Roots.{IsFixed};
+    ghost use Rattle.ms_alias.specs.Roots.{IsFixed, IsTurnedBy};
     ghost use Rattle.ms_alias.specs.Captured.{Differ, IsCaptured, IsCapturedBut};
     ghost use Rattle.ms_alias.specs.Reaches.{Reach, ReadsLoc, WritesLoc};
-    ghost use Rattle.ms_alias.specs.Meeting.{MayWrite, MayRead, MustWrite, IsOuter};
-    ghost use Rattle.ms_alias.specs.Tests.{may_write_by, may_read_by};
-    ghost use Rattle.ms_alias.specs.Tables.{AliasState, IsAliasOf, IsReady, HasPointers, IsCapturesBut, origin_of, val_origin, is_turning, val_set, sets_meet, is_known, args_meet, call_meets, call_meets_args, are_known, calls_meet, spans_meet, reaches_meet, reach_of, reach_in, read_reach, write_reach, IsReachBy, IsReadBy, IsWrittenBy, span_at, meet_in, must_hold, bytes_at, read_loc, written_loc, caught_at, set_of, has_outer};
+    ghost use Rattle.ms_alias.specs.Meeting.{MayWrite, MayWriteInTurn, MayRead, MustWrite, IsOuter, IsLocTurnedBy};
+    ghost use Rattle.ms_alias.specs.Tests.{may_write_by, may_read_by, may_write_in_turn_by};
+    ghost use Rattle.ms_alias.specs.Tables.{AliasState, IsAliasOf, IsReady, HasPointers, IsCapturesBut, origin_of, val_origin, is_turning, val_set, sets_meet, is_known, args_meet, call_meets, call_meets_args, are_known, calls_meet, spans_meet, reaches_meet, reaches_meet_in_turn, reach_of, reach_in, read_reach, write_reach, IsReachBy, IsReadBy, IsWrittenBy, span_at, meet_in, must_hold, bytes_at, read_loc, written_loc, caught_at, set_of, has_outer};
 
     /// The pointers of a function. It takes all the memory that each other call needs. `Err` comes only where memory is wanting,
     /// or for 2^32 locals and more.
@@ -395,12 +395,45 @@ impl Alias {
         }
     }
 
+    // Whether two things that instructions touch meet while roots stay what they are.
+    fn meet_now(&self, a: &Touch, b: &Touch) -> bool
+        ensures { result ≡ reaches_meet_in_turn self.now (reach_of a.now) (reach_of b.now) }
+    {
+        match (*a, *b) {
+            (
+                Touch::Span { root, from, len },
+                Touch::Span {
+                    root: other,
+                    from: at,
+                    len: size,
+                },
+            ) => {
+                if same_root(root, other) {
+                    ranges_meet(from, len, at, size)
+                } else {
+                    self.spans_meet(root, from, len, other, at, size)
+                }
+            }
+            (Touch::Span { .. }, Touch::Call { .. }) | (Touch::Call { .. }, _) => self.meet(a, b),
+        }
+    }
+
     // Whether two things that instructions touch are there and meet.
     fn meet_in(&self, a: &Option<Touch>, b: &Option<Touch>) -> bool
-        ensures { result ≡ meet_in self.now (reach_in a.now) (reach_in b.now) }
+        ensures { result ≡ meet_in (reaches_meet self.now) (reach_in a.now) (reach_in b.now) }
     {
         match (a, b) {
             (Some(a), Some(b)) => self.meet(a, b),
+            _ => false,
+        }
+    }
+
+    // Whether they are there and meet while roots stay what they are.
+    fn meet_in_turn(&self, a: &Option<Touch>, b: &Option<Touch>) -> bool
+        ensures { result ≡ meet_in (reaches_meet_in_turn self.now) (reach_in a.now) (reach_in b.now) }
+    {
+        match (a, b) {
+            (Some(a), Some(b)) => self.meet_now(a, b),
             _ => false,
         }
     }
@@ -419,6 +452,15 @@ impl Alias {
         ensures told { IsAliasOf func.now self.now → (IsTrue result ↔ MayRead func.now i.0 loc.now) }
     {
         self.meet_in(&self.read_at(func, i), &self.loc_touch(func, loc))
+    }
+
+    /// Whether what an instruction writes meets a location as long as the location's root is not made anew: byte locations with one
+    /// root, fixed or turning, meet where they share a byte. The answer is that of a test over the tables, so that a search can name it.
+    pub fn may_write_in_turn(&self, func: &Func, i: InstNo, loc: &Loc) -> bool
+        ensures test { result ≡ may_write_in_turn_by func.now self.now loc.now i.0 }
+        ensures told { IsAliasOf func.now self.now → (IsTrue result ↔ MayWriteInTurn func.now i.0 loc.now) }
+    {
+        self.meet_in_turn(&self.write_at(func, i), &self.loc_touch(func, loc))
     }
 
     // Whether these are bytes of a fixed root, this byte among them.
@@ -515,6 +557,38 @@ impl Alias {
     {
         let _func = func;
         !self.is_turning(root)
+    }
+
+    /// The instruction that makes a turning root. `None` exactly where the root is fixed.
+    pub fn turning(&self, func: &Func, root: Root) -> Option<InstNo>
+        requires { IsAliasOf func.now self.now }
+        ensures made { MatchOption result ((q : ℕ) → IsTurnedBy func.now root q → ⊥) (λ q. IsTurnedBy func.now root q.0) }
+        // No other instruction makes it.
+        ensures one { IfSome result (λ q. (p : ℕ) → IsTurnedBy func.now root p → p ≡ q.0) }
+    {
+        func.numbered();
+        if !self.is_turning(root) {
+            return None;
+        }
+        match root {
+            Root::Local(l) => func.def_of(l),
+            Root::Global(_) => None,
+        }
+    }
+
+    /// The instruction that makes the root of a location's bytes, where that root is turning. `None` exactly elsewhere, so for what a
+    /// call reads.
+    pub fn turning_of(&self, func: &Func, loc: &Loc) -> Option<InstNo>
+        requires { IsAliasOf func.now self.now }
+        ensures made { MatchOption result ((q : ℕ) → IsLocTurnedBy func.now loc.now q → ⊥) (λ q. IsLocTurnedBy func.now loc.now q.0) }
+        // No other instruction makes it.
+        ensures one { IfSome result (λ q. (p : ℕ) → IsLocTurnedBy func.now loc.now p → p ≡ q.0) }
+    {
+        match self.loc_touch(func, loc) {
+            Some(Touch::Span { root, .. }) => self.turning(func, root),
+            Some(Touch::Call { .. }) => None,
+            None => None,
+        }
     }
 
     /// Whether a base of a root is no alloca.

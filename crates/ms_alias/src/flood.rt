@@ -110,13 +110,20 @@ impl Flood {
         ensures { self.new ≡ took_all bases.now (pointers_in (sources_in inst.now)) self.old }
     {
         match inst {
-            Inst::Gep { base, .. } => self.take_val(bases, *base),
+            Inst::Gep { base, .. } | Inst::Step { base, .. } => self.take_val(bases, *base),
             Inst::Select { a, b, .. } => {
                 self.take_val(bases, *a);
                 self.take_val(bases, *b);
             }
             Inst::Phi { entries, .. } => self.take_entries(bases, entries.as_slice()),
-            _ => {}
+            Inst::Alloca { .. }
+            | Inst::Load { .. }
+            | Inst::Store { .. }
+            | Inst::Copy { .. }
+            | Inst::Call { .. }
+            | Inst::Bin { .. }
+            | Inst::Cmp { .. }
+            | Inst::Cast { .. } => {}
         }
     }
 

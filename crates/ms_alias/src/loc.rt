@@ -1,7 +1,8 @@
 // Roots of pointers, and locations in memory.
 use ms_ir::{GlobalNo, InstNo, LocalNo};
 
-/// What remains of a pointer after its constant getelementptrs: an argument, an alloca, a select or a phi, or a global.
+/// What remains of a pointer after its constant getelementptrs: an argument, an alloca, a select, a phi, a getelementptr with a local
+/// among its indices, or a global.
 #[derive(Clone, Copy, PartialEq, Eq)]
 pub enum Root {
     Local(LocalNo),

@@ -34,14 +34,20 @@ pub fn is_alloca(inst: &Inst) -> bool
     }
 }
 
-// Whether an instruction is an alloca, a getelementptr, or a select or phi of pointers.
+// Whether an instruction is an alloca, a getelementptr with or without terms, or a select or phi of pointers.
 fn makes_pointer(inst: &Inst) -> bool
     ensures { result ≡ makes_pointer inst.now }
 {
     match inst {
-        Inst::Alloca { .. } | Inst::Gep { .. } => true,
+        Inst::Alloca { .. } | Inst::Gep { .. } | Inst::Step { .. } => true,
         Inst::Select { ty, .. } | Inst::Phi { ty, .. } => is_pointer(*ty),
-        _ => false,
+        Inst::Load { .. }
+        | Inst::Store { .. }
+        | Inst::Copy { .. }
+        | Inst::Call { .. }
+        | Inst::Bin { .. }
+        | Inst::Cmp { .. }
+        | Inst::Cast { .. } => false,
     }
 }
 
@@ -92,7 +98,7 @@ pub fn home(func: &Func, l: LocalNo) -> Option<BlockNo>
     }
 }
 
-// What a getelementptr adds to which pointer.
+// What a getelementptr adds to which pointer. One with terms adds no fixed number of bytes.
 fn step_in(inst: &Inst) -> Option<(Root, i64)>
     ensures { option_map pair_step result ≡ step_in inst.now }
 {
@@ -101,7 +107,17 @@ fn step_in(inst: &Inst) -> Option<(Root, i64)>
             Some(p) => Some((p, *offset)),
             None => None,
         },
-        _ => None,
+        Inst::Alloca { .. }
+        | Inst::Step { .. }
+        | Inst::Load { .. }
+        | Inst::Store { .. }
+        | Inst::Copy { .. }
+        | Inst::Call { .. }
+        | Inst::Bin { .. }
+        | Inst::Cmp { .. }
+        | Inst::Select { .. }
+        | Inst::Cast { .. }
+        | Inst::Phi { .. } => None,
     }
 }
 

@@ -116,13 +116,20 @@ fn add_inst(columns: &mut Vec<Root>, inst: &Inst) -> Result<(), NoMemory>
     ensures globals { OnOk result (HaveGlobals columns.new.items (pointers_in (sources_in inst.now))) }
 {
     match inst {
-        Inst::Gep { base, .. } => add_val(columns, *base)?,
+        Inst::Gep { base, .. } | Inst::Step { base, .. } => add_val(columns, *base)?,
         Inst::Select { a, b, .. } => {
             add_val(columns, *a)?;
             add_val(columns, *b)?;
         }
         Inst::Phi { entries, .. } => add_entries(columns, entries.as_slice())?,
-        _ => {}
+        Inst::Alloca { .. }
+        | Inst::Load { .. }
+        | Inst::Store { .. }
+        | Inst::Copy { .. }
+        | Inst::Call { .. }
+        | Inst::Bin { .. }
+        | Inst::Cmp { .. }
+        | Inst::Cast { .. } => {}
     }
     Ok(())
 }

@@ -40,7 +40,12 @@ abbrev pub shifted : Op → Flags → ℕ → ℕ → ℕ → Option ℕ
 shifted Shl g m a b = shifted_left g m a b
 shifted Lshr g m a b = unless (loses_bits g a b) (a / 2 ^ b)
 shifted Ashr g m a b = unless (loses_bits g a b) (wrap m (halved (signed m a) b))
-shifted _ g m a b = None
+shifted Add g m a b = None
+shifted Sub g m a b = None
+shifted Mul g m a b = None
+shifted And g m a b = None
+shifted Or g m a b = None
+shifted Xor g m a b = None
 
 -- an operation on two numbers of m bits
 abbrev pub operated : Op → Flags → ℕ → ℕ → ℕ → Option ℕ

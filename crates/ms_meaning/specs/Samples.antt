@@ -2,7 +2,7 @@
 use Rattle.std.specs.Prelude.{ℕ, pos, true, false, List, [], ◌∷◌, Some, None}
 use Rattle.ms_ir.specs.declared.names.Name.TheVariants.{Absent}
 use Rattle.ms_ir.specs.declared.names.Ty.{Ty}
-use Rattle.ms_ir.specs.declared.names.Ty.TheVariants.{I1, I8, I32, Ptr}
+use Rattle.ms_ir.specs.declared.names.Ty.TheVariants.{I1, I8, I32, I64, Ptr}
 use Rattle.ms_ir.specs.declared.names.BlockNo.{BlockNo}
 use Rattle.ms_ir.specs.declared.names.Param.{Param}
 use Rattle.ms_ir.specs.declared.inst.Val.{Val}
@@ -10,9 +10,10 @@ use Rattle.ms_ir.specs.declared.inst.Val.TheVariants.{Num, Local}
 use Rattle.ms_ir.specs.declared.inst.Flags.{Flags}
 use Rattle.ms_ir.specs.declared.inst.Effects.{Effects}
 use Rattle.ms_ir.specs.declared.inst.Entry.{Entry}
+use Rattle.ms_ir.specs.declared.inst.IndexTerm.{IndexTerm}
 use Rattle.ms_ir.specs.declared.inst.Op.TheVariants.{Add}
 use Rattle.ms_ir.specs.declared.inst.Inst.{Inst}
-use Rattle.ms_ir.specs.declared.inst.Inst.TheVariants.{Alloca, Load, Store, Call, Bin, Phi}
+use Rattle.ms_ir.specs.declared.inst.Inst.TheVariants.{Alloca, Step, Load, Store, Call, Bin, Phi}
 use Rattle.ms_ir.specs.declared.inst.Term.{Term}
 use Rattle.ms_ir.specs.declared.inst.Term.TheVariants.{Br, CondBr, Ret}
 use Rattle.ms_ir.specs.Func.{Placed, Block, FuncState}
@@ -72,6 +73,20 @@ adds = func (param Ptr ∷ param I32 ∷ [])
 -- with a pointer to the first of these bytes, and 41
 abbrev pub adds_input : List Byte → Input
 adds_input object = record { args = Pointer 0 (pos 0) ∷ Number I32 41 ∷ []; objects = object ∷ []; answers = [] }
+
+-- an index that is a local, and so many bytes for each
+abbrev pub index : Ty → ℕ → ℕ → IndexTerm
+index ty k scale = record { val = local k; ty = ty; scale = scale }
+
+-- loads the byte that stands behind a pointer by 4, twice an index, and another index
+abbrev pub strides : FuncState
+strides = func (param Ptr ∷ param I8 ∷ param I64 ∷ [])
+    (block (giving 0 3 (Step (local 0) (pos 4) (index I8 1 2 ∷ index I64 2 1 ∷ []) [] [] []) ∷ giving 1 4 (Load I8 (local 3) []) ∷ [])
+    (Ret (Some (I8, local 4)) []) ∷ [])
+
+-- with a pointer to the first of four bytes, and these indices
+abbrev pub strides_input : ℕ → ℕ → Input
+strides_input m n = record { args = Pointer 0 (pos 0) ∷ Number I8 m ∷ Number I64 n ∷ []; objects = (Is 1 ∷ Is 2 ∷ Is 3 ∷ Is 4 ∷ []) ∷ []; answers = [] }
 
 -- from block 0 a number, from block 1 a local
 abbrev pub at_first : ℕ → Entry

@@ -1,5 +1,5 @@
 -- Small instructions, and moments at which the next step has a meaning or none.
-use Rattle.std.specs.Prelude.{ℕ, true, List, [], ◌∷◌, Option, Some, None}
+use Rattle.std.specs.Prelude.{ℕ, pos, true, List, [], ◌∷◌, Option, Some, None}
 use Rattle.ms_ir.specs.declared.names.Ty.{Ty}
 use Rattle.ms_ir.specs.declared.names.Ty.TheVariants.{I1, I8, I32, Ptr}
 use Rattle.ms_ir.specs.declared.inst.Val.TheVariants.{Num}
@@ -8,17 +8,20 @@ use Rattle.ms_ir.specs.declared.inst.CastOp.{CastOp}
 use Rattle.ms_ir.specs.declared.inst.Op.TheVariants.{Add}
 use Rattle.ms_ir.specs.declared.inst.Pred.TheVariants.{Ult}
 use Rattle.ms_ir.specs.declared.inst.Inst.{Inst}
-use Rattle.ms_ir.specs.declared.inst.Inst.TheVariants.{Alloca, Load, Store, Copy, Call, Bin, Cmp, Select, Cast, Phi}
+use Rattle.ms_ir.specs.declared.inst.Inst.TheVariants.{Alloca, Step, Load, Store, Copy, Call, Bin, Cmp, Select, Cast, Phi}
 use Rattle.ms_ir.specs.declared.inst.Term.{Term}
 use Rattle.ms_ir.specs.declared.inst.Term.TheVariants.{Br, CondBr, Ret, Unreachable}
 use Rattle.ms_ir.specs.Func.{Placed, FuncState}
 use Rattle.ms_meaning.specs.Values.{Byte}
 use Rattle.ms_meaning.specs.States.{State, begun}
-use Rattle.ms_meaning.specs.Samples.{local, to, no_flags, all, giving, at_first, block, param, func, adds_input}
+use Rattle.ms_meaning.specs.Samples.{local, to, no_flags, all, giving, index, at_first, block, param, func, adds_input, strides_input}
 
 -- instructions and terminators with a type to be judged
 abbrev pub load_of : Ty → Inst
 load_of ty = Load ty (local 0) []
+
+abbrev pub step_of : Ty → Inst
+step_of ty = Step (local 0) (pos 0) (index ty 1 4 ∷ []) [] [] []
 
 abbrev pub store_of : Ty → Inst
 store_of ty = Store ty (local 1) (local 0) []
@@ -57,6 +60,10 @@ full_phi = Phi I8 (at_first 5 ∷ []) []
 -- the load of a number of four bytes is about to be run, in an object of these bytes
 abbrev pub about_to_load : List Byte → State
 about_to_load object = begun (adds_input object)
+
+-- a getelementptr with such an index is about to be run, at the beginning of an object
+abbrev pub about_to_step : ℕ → State
+about_to_step n = begun (strides_input 0 n)
 
 -- a function that is not to be run
 abbrev pub ends : FuncState
