@@ -8,7 +8,7 @@ use Rattle.ms_ir.specs.Graph.{graph_of}
 use Rattle.ms_ir.specs.declared.names.Param.{Param}
 use Rattle.ms_ir.specs.declared.names.LocalNo.{LocalNo}
 use Rattle.ms_ir.specs.declared.inst.Inst.{Inst}
-use Rattle.ms_ir.specs.declared.inst.Inst.TheVariants.{Alloca as AllocaInst, Gep, Load, Store, Copy, Call, Bin, Cmp, Select, Cast, Phi}
+use Rattle.ms_ir.specs.declared.inst.Inst.TheVariants.{Alloca as AllocaInst, Gep, Step as StepInst, Load, Store, Copy, Call, Bin, Cmp, Select, Cast, Phi}
 use Rattle.ms_ir.specs.Func.{Placed, FuncState, insts_at}
 use Rattle.ms_ir.specs.Locals.{IsNumbered, IsGiver}
 use Rattle.ms_ir.specs.Uses.{operands_of}
@@ -105,6 +105,7 @@ alloca_objects t (AllocaInst size head tail) d a e = let objects : Deed → ℕ 
   doing_objects (Waits made) = 1
   doing_objects Fails = 1
 alloca_objects t (Gep base offset head index tail) d a e = cc
+alloca_objects t (StepInst base offset terms head index tail) d a e = cc
 alloca_objects t (Load ty ptr tail) d a e = cc
 alloca_objects t (Store ty val ptr tail) d a e = cc
 alloca_objects t (Copy to from len head tail) d a e = cc
@@ -118,6 +119,7 @@ alloca_objects t (Phi ty entries tail) d a e = cc
 no_alloca_phi : (inst : Inst) → is_alloca inst ≡ true → is_phi inst ≡ true → ⊥
 no_alloca_phi (AllocaInst size head tail) a p = cc
 no_alloca_phi (Gep base offset head index tail) a p = cc
+no_alloca_phi (StepInst base offset terms head index tail) a p = cc
 no_alloca_phi (Load ty ptr tail) a p = cc
 no_alloca_phi (Store ty val ptr tail) a p = cc
 no_alloca_phi (Copy to from len head tail) a p = cc
@@ -131,6 +133,7 @@ no_alloca_phi (Phi ty entries tail) a p = cc
 alloca_made : (t : State) (inst : Inst) (o : ℕ) (at : ℤ) → is_alloca inst ≡ true → MadeFrom t inst o at → o ≡ length t.objects
 alloca_made t (AllocaInst size head tail) o at a m = m.0
 alloca_made t (Gep base offset head index tail) o at a m = cc
+alloca_made t (StepInst base offset terms head index tail) o at a m = cc
 alloca_made t (Load ty ptr tail) o at a m = cc
 alloca_made t (Store ty val ptr tail) o at a m = cc
 alloca_made t (Copy to from len head tail) o at a m = cc
@@ -185,6 +188,7 @@ module _ (f : FuncState) (input : Input) (fits : IsInput f input) (n : ℕ) (t :
       ))
   kept_known b k x (AllocaInst size head tail) o is found e = absurd e
   kept_known b k x (Gep base offset head index tail) o is found e = absurd e
+  kept_known b k x (StepInst base offset terms head index tail) o is found e = absurd e
   kept_known b k x (Load ty ptr tail) o is found e = absurd e
   kept_known b k x (Store ty val ptr tail) o is found e = absurd e
   kept_known b k x (Copy to from len head tail) o is found e = absurd e

@@ -3,7 +3,7 @@ use Rattle.std.proofs.Common.{◌≡◌, ◌∙◌, ◌<◌, ◌≤◌, ℕ, zer
 use Rattle.std.specs.Prelude.{Contains}
 use Rattle.ms_ir.specs.declared.inst.Val.{Val}
 use Rattle.ms_ir.specs.declared.inst.Inst.{Inst}
-use Rattle.ms_ir.specs.declared.inst.Inst.TheVariants.{Alloca, Gep, Load, Store, Copy, Call, Bin, Cmp, Select, Cast, Phi}
+use Rattle.ms_ir.specs.declared.inst.Inst.TheVariants.{Alloca, Gep, Step as StepInst, Load, Store, Copy, Call, Bin, Cmp, Select, Cast, Phi}
 use Rattle.ms_ir.specs.Func.{FuncState}
 use Rattle.ms_alias.specs.declared.loc.Root.{Root}
 use Rattle.ms_alias.specs.declared.loc.Root.TheVariants.{Local, Global}
@@ -81,6 +81,7 @@ gep_lead bytes (Some p) s e = with_here (Some p) [] s.base (let same : record { 
 
 inst_lead : (inst : Inst) (s : Step) → step_in inst ≡ Some s → Contains (pointers_in (sources_in inst)) s.base
 inst_lead (Gep base offset head index tail) s e = gep_lead offset (pointer_of base) s e
+inst_lead (StepInst base offset terms head index tail) s e = cc
 inst_lead (Alloca size head tail) s e = cc
 inst_lead (Load ty ptr tail) s e = cc
 inst_lead (Store ty val ptr tail) s e = cc

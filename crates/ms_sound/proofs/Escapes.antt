@@ -9,13 +9,13 @@ use Rattle.ms_ir.specs.declared.names.FuncNo.{FuncNo}
 use Rattle.ms_ir.specs.declared.inst.Arg.{Arg}
 use Rattle.ms_ir.specs.declared.inst.Effects.{Effects}
 use Rattle.ms_ir.specs.declared.inst.Inst.{Inst}
-use Rattle.ms_ir.specs.declared.inst.Inst.TheVariants.{Alloca, Gep, Load, Store, Copy, Call, Bin, Cmp, Select, Cast, Phi}
+use Rattle.ms_ir.specs.declared.inst.Inst.TheVariants.{Alloca, Gep, Step as StepInst, Load, Store, Copy, Call, Bin, Cmp, Select, Cast, Phi}
 use Rattle.ms_meaning.specs.Values.{Byte, Value, Number, Pointer, bits, size_of, is_integer, bytes_of, loaded}
 use Rattle.ms_meaning.specs.Operations.{operated, compared, converted}
 use Rattle.ms_meaning.specs.Memory.{Written, with_byte, with_written, object_at, has_bytes, read, spread, overlap_in_part}
 use Rattle.ms_meaning.specs.States.{State, Answer, Made, value_of, operand_of, number_as}
 use Rattle.ms_meaning.specs.Calls.{values_of, value_before, points_into, is_kept, escaped_with, is_result, are_reached}
-use Rattle.ms_meaning.specs.Steps.{Deed, Doing, Does, Waits, Fails, doing, quiet, gives, from_one, from_two, gives_number, gives_bytes, loads, stores, copies, writes_bytes, chooses, moves, is_offset, calls, answered, made_call}
+use Rattle.ms_meaning.specs.Steps.{Deed, Doing, Does, Waits, Fails, doing, quiet, gives, from_one, from_two, gives_number, gives_bytes, loads, stores, copies, writes_bytes, chooses, moves, moves_by, terms_bytes, is_offset, calls, answered, made_call}
 
 byte_length : (objects : List (List Byte)) (w : Written) → length (with_byte objects w) ≡ length objects
 byte_length objects w = length-set objects w.object (slice_set (object_at objects w.object) (nat_abs w.offset) w.byte)
@@ -105,6 +105,10 @@ moved_same t None by o = refl
 moved_same t (Some (Number u n)) by o = refl
 moved_same t (Some (Pointer p at)) by o = if_same t (is_offset (at +ℤ by)) (gives t (Pointer p (at +ℤ by))) o refl
 
+moved_by_same : (t : State) (v : Option Value) (offset : ℤ) (by : Option ℤ) (o : ℕ) → escaped_in t (moves_by t v offset by) o ≡ t.escaped o
+moved_by_same t v offset None o = refl
+moved_by_same t v offset (Some by) o = moved_same t v (offset +ℤ by) o
+
 chosen_same : (t : State) (n : Option ℕ) (a b : Option Value) (o : ℕ) → escaped_in t (chooses t n a b) o ≡ t.escaped o
 chosen_same t None a b o = refl
 chosen_same t (Some n) None b o = refl
@@ -133,6 +137,7 @@ call_from t callee ret args e (Some values) o is h =
 escaped_doing : (t : State) (inst : Inst) (o : ℕ) → escaped_in t (doing t inst) o ≡ true → (t.escaped o ≡ true) ⊎ EscapesBy t inst o
 escaped_doing t (Alloca size head tail) o h = inl h
 escaped_doing t (Gep base offset head index tail) o h = inl (sym (moved_same t (operand_of t.locals Ptr base) offset o) ∙ h)
+escaped_doing t (StepInst base offset terms head index tail) o h = inl (sym (moved_by_same t (operand_of t.locals Ptr base) offset (terms_bytes t.locals terms) o) ∙ h)
 escaped_doing t (Load ty ptr tail) o h = inl (sym (load_same t ty (operand_of t.locals Ptr ptr) o) ∙ h)
 escaped_doing t (Store ty val ptr tail) o h = inl (sym (store_same t ty (number_as ty (value_of t.locals val)) (operand_of t.locals Ptr ptr) o) ∙ h)
 escaped_doing t (Copy to from len head tail) o h = inl (sym (copy_same t (operand_of t.locals Ptr to.val) (operand_of t.locals Ptr from.val) len o) ∙ h)

@@ -12,7 +12,7 @@ use Rattle.ms_ir.specs.declared.inst.Arg.{Arg}
 use Rattle.ms_ir.specs.declared.inst.Effects.{Effects}
 use Rattle.ms_ir.specs.declared.names.FuncNo.{FuncNo}
 use Rattle.ms_ir.specs.declared.inst.Inst.{Inst}
-use Rattle.ms_ir.specs.declared.inst.Inst.TheVariants.{Alloca, Gep, Load, Store, Copy, Call, Bin, Cmp, Select, Cast, Phi}
+use Rattle.ms_ir.specs.declared.inst.Inst.TheVariants.{Alloca, Gep, Step as StepInst, Load, Store, Copy, Call, Bin, Cmp, Select, Cast, Phi}
 use Rattle.ms_ir.specs.Func.{Placed, FuncState, insts_at}
 use Rattle.ms_ir.specs.Graph.{graph_of}
 use Rattle.ms_alias.specs.Roots.{is_pointer}
@@ -22,16 +22,23 @@ use Rattle.ms_meaning.specs.Operations.{operated, compared, converted}
 use Rattle.ms_meaning.specs.Memory.{read, spread, has_bytes, object_at, overlap_in_part}
 use Rattle.ms_meaning.specs.States.{State, Answer, Made, value_of, value_as, operand_of, with_local, number_as}
 use Rattle.ms_meaning.specs.Calls.{values_of, escaped_with, is_result, are_reached}
-use Rattle.ms_meaning.specs.Steps.{Deed, quiet, gives, Doing, Does, Waits, Fails, doing, from_one, from_two, gives_number, gives_bytes, loads, stores, copies, writes_bytes, chooses, moves, calls, answered, made_call, is_offset, with_result, is_phi, with_phi, with_phis, phi_value, value_from}
+use Rattle.ms_meaning.specs.Steps.{Deed, quiet, gives, Doing, Does, Waits, Fails, doing, from_one, from_two, gives_number, gives_bytes, loads, stores, copies, writes_bytes, chooses, moves, moves_by, terms_bytes, calls, answered, made_call, is_offset, with_result, is_phi, with_phi, with_phis, phi_value, value_from}
 use Rattle.ms_meaning.proofs.Goes.{Goes, ran, left}
 
--- the pointer that an instruction gives comes from one of these
+-- The pointer that an instruction gives comes from one of these. A getelementptr with terms may add any number of bytes.
 abbrev pub MadeFrom : State → Inst → ℕ → ℤ → Type 0
 MadeFrom t (Alloca size head tail) o at = (o ≡ length t.objects) × (at ≡ pos 0)
 MadeFrom t (Gep base offset head index tail) o at = (from : ℤ) × (operand_of t.locals Ptr base ≡ Some (Pointer o from)) × (at ≡ from +ℤ offset)
+MadeFrom t (StepInst base offset terms head index tail) o at = (from : ℤ) × (operand_of t.locals Ptr base ≡ Some (Pointer o from))
 MadeFrom t (Select cond ty a b tail) o at = (is_pointer ty ≡ true) × ((operand_of t.locals ty a ≡ Some (Pointer o at)) ⊎ (operand_of t.locals ty b ≡ Some (Pointer o at)))
 MadeFrom t (Phi ty entries tail) o at = (is_pointer ty ≡ true) × (e : Entry) × Contains entries e × (operand_of t.locals ty e.val ≡ Some (Pointer o at))
-MadeFrom t _ o at = ⊥
+MadeFrom t (Load ty ptr tail) o at = ⊥
+MadeFrom t (Store ty val ptr tail) o at = ⊥
+MadeFrom t (Copy to from len head tail) o at = ⊥
+MadeFrom t (Call callee ret args effects head tail) o at = ⊥
+MadeFrom t (Bin op flags ty a b tail) o at = ⊥
+MadeFrom t (Cmp pred flags ty a b tail) o at = ⊥
+MadeFrom t (Cast op flags from a to tail) o at = ⊥
 
 no_bits : (ty : Ty) → bits ty ≡ 0 → is_pointer ty ≡ true
 no_bits I1 e = cc
@@ -134,6 +141,10 @@ moved_in t (Some (Number u n)) by o at e = cc
 moved_in t (Some (Pointer p from)) by o at e =
     let h = moved_if t (is_offset (from +ℤ by)) p (from +ℤ by) o at e in (from, ap (λ q. Some (Pointer q from)) h.0, sym h.1)
 
+moved_by_in : (t : State) (v : Option Value) (offset : ℤ) (by : Option ℤ) (o : ℕ) (at : ℤ) → IsPointerIn (moves_by t v offset by) o at → (from : ℤ) × (v ≡ Some (Pointer o from))
+moved_by_in t v offset None o at e = cc
+moved_by_in t v offset (Some by) o at e = let h = moved_in t v (offset +ℤ by) o at e in (h.0, h.1)
+
 chosen_in : (t : State) (n : Option ℕ) (a b : Option Value) (o : ℕ) (at : ℤ) → IsPointerIn (chooses t n a b) o at → (a ≡ Some (Pointer o at)) ⊎ (b ≡ Some (Pointer o at))
 chosen_in t None a b o at e = cc
 chosen_in t (Some n) None b o at e = cc
@@ -146,6 +157,7 @@ chosen_in t (Some n) (Some a) (Some b) o at e = chosen_if (n == 0) a b e where
 doing_in : (t : State) (inst : Inst) (o : ℕ) (at : ℤ) → IsPointerIn (doing t inst) o at → MadeFrom t inst o at
 doing_in t (Alloca size head tail) o at e = (sym (let x : length t.objects ≡ o = cc in x), sym (let x : pos 0 ≡ at = cc in x))
 doing_in t (Gep base offset head index tail) o at e = moved_in t (operand_of t.locals Ptr base) offset o at e
+doing_in t (StepInst base offset terms head index tail) o at e = moved_by_in t (operand_of t.locals Ptr base) offset (terms_bytes t.locals terms) o at e
 doing_in t (Load ty ptr tail) o at e = load_in t ty (operand_of t.locals Ptr ptr) o at e
 doing_in t (Store ty val ptr tail) o at e = store_in t ty (number_as ty (value_of t.locals val)) (operand_of t.locals Ptr ptr) o at e
 doing_in t (Copy to from len head tail) o at e = copy_in t (operand_of t.locals Ptr to.val) (operand_of t.locals Ptr from.val) len o at e
@@ -178,6 +190,7 @@ pub phi_from : (t : State) (a : ℕ) (inst : Inst) (o : ℕ) (at : ℤ) → phi_
 phi_from t a (Phi ty entries tail) o at h = let e = entry_from t ty a entries o at h in (pointer_typed t ty e.0.val o at e.2, e.0, e.1, e.2)
 phi_from t a (Alloca size head tail) o at h = cc
 phi_from t a (Gep base offset head index tail) o at h = cc
+phi_from t a (StepInst base offset terms head index tail) o at h = cc
 phi_from t a (Load ty ptr tail) o at h = cc
 phi_from t a (Store ty val ptr tail) o at h = cc
 phi_from t a (Copy to from len head tail) o at h = cc
@@ -187,10 +200,11 @@ phi_from t a (Cmp pred flags ty x y tail) o at h = cc
 phi_from t a (Select cond ty x y tail) o at h = cc
 phi_from t a (Cast op flags from x to tail) o at h = cc
 
-is_no_phi : (t : State) (inst : Inst) (d : Deed) → doing t inst ≡ Does d → is_phi inst ≡ false
+pub is_no_phi : (t : State) (inst : Inst) (d : Deed) → doing t inst ≡ Does d → is_phi inst ≡ false
 is_no_phi t (Phi ty entries tail) d h = cc
 is_no_phi t (Alloca size head tail) d h = refl
 is_no_phi t (Gep base offset head index tail) d h = refl
+is_no_phi t (StepInst base offset terms head index tail) d h = refl
 is_no_phi t (Load ty ptr tail) d h = refl
 is_no_phi t (Store ty val ptr tail) d h = refl
 is_no_phi t (Copy to from len head tail) d h = refl
@@ -201,7 +215,7 @@ is_no_phi t (Select cond ty x y tail) d h = refl
 is_no_phi t (Cast op flags from x to tail) d h = refl
 
 -- a local is as it was, or has the value of this phi
-abbrev IsPhiGiven : State → ℕ → List Placed → (ℕ → Option Value) → LocalNo → Type 0
+abbrev pub IsPhiGiven : State → ℕ → List Placed → (ℕ → Option Value) → LocalNo → Type 0
 IsPhiGiven t a xs locals l = (k : ℕ) × (x : Placed) × (slice_get xs k ≡ Some x) × (is_phi x.inst ≡ true) × (x.result ≡ Some l) × (locals l.0 ≡ phi_value t.locals a x.inst)
 
 with_local_cases : (k l : LocalNo) (v : Value) (locals : ℕ → Option Value) → ((l ≡ k) × (with_local k v locals l.0 ≡ Some v)) ⊎ (with_local k v locals l.0 ≡ locals l.0)
@@ -230,7 +244,7 @@ phi_there t a x xs (Some k) (Some v) (Some old) locals l phi r is before h =
     (before old refl))
     (with_local_cases k l v old)
 
-phis_there : (t : State) (a : ℕ) (xs : List Placed) (locals : ℕ → Option Value) (l : LocalNo) → with_phis t.locals a xs ≡ Some locals →
+pub phis_there : (t : State) (a : ℕ) (xs : List Placed) (locals : ℕ → Option Value) (l : LocalNo) → with_phis t.locals a xs ≡ Some locals →
     (locals l.0 ≡ t.locals l.0) ⊎ IsPhiGiven t a xs locals l
 phis_there t a [] locals l h = inl (let same : t.locals ≡ locals = cc in sym (ap (λ (g : ℕ → Option Value). g l.0) same))
 phis_there t a (x ∷ xs) locals l h =
@@ -250,7 +264,7 @@ pub record Gives (f : FuncState) (t s : State) (l : LocalNo) : Type 0 where
   pub by : ((is_phi inst.inst ≡ false) × (t.block ≡ s.block) × (t.place ≡ place)) ⊎ ((is_phi inst.inst ≡ true) × HasEdge (graph_of f.blocks) t.block s.block)
   pub from : (o : ℕ) (at : ℤ) → s.locals l.0 ≡ Some (Pointer o at) → MadeFrom t inst.inst o at
 
-result_there : (r : Option LocalNo) (v : Option Value) (locals : ℕ → Option Value) (l : LocalNo) → (with_result r v locals l.0 ≡ locals l.0) ⊎ ((r ≡ Some l) × (with_result r v locals l.0 ≡ v))
+pub result_there : (r : Option LocalNo) (v : Option Value) (locals : ℕ → Option Value) (l : LocalNo) → (with_result r v locals l.0 ≡ locals l.0) ⊎ ((r ≡ Some l) × (with_result r v locals l.0 ≡ v))
 result_there None v locals l = inl refl
 result_there (Some k) None locals l = inl refl
 result_there (Some k) (Some v) locals l =

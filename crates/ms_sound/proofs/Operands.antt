@@ -9,7 +9,7 @@ use Rattle.ms_ir.specs.declared.inst.Val.TheVariants.{Num, Local as LocalVal, Gl
 use Rattle.ms_ir.specs.declared.inst.Arg.{Arg}
 use Rattle.ms_ir.specs.declared.inst.Entry.{Entry}
 use Rattle.ms_ir.specs.declared.inst.Inst.{Inst}
-use Rattle.ms_ir.specs.declared.inst.Inst.TheVariants.{Alloca as AllocaInst, Gep, Load, Store, Copy, Call, Bin, Cmp, Select, Cast, Phi}
+use Rattle.ms_ir.specs.declared.inst.Inst.TheVariants.{Alloca as AllocaInst, Gep, Step as StepInst, Load, Store, Copy, Call, Bin, Cmp, Select, Cast, Phi}
 use Rattle.ms_ir.specs.Func.{Placed, FuncState, insts_at}
 use Rattle.ms_ir.specs.Locals.{IsNumbered}
 use Rattle.ms_ir.specs.Uses.{Operand, operands_of, arg_operand, entry_operand}
@@ -68,6 +68,7 @@ module _ (f : FuncState) (input : Input) (fits : IsInput f input) (n : ℕ) (t :
 made_makes : (t : State) (inst : Inst) (o : ℕ) (at : ℤ) → MadeFrom t inst o at → makes_pointer inst ≡ true
 made_makes t (AllocaInst size head tail) o at m = refl
 made_makes t (Gep base offset head index tail) o at m = refl
+made_makes t (StepInst base offset terms head index tail) o at m = refl
 made_makes t (Select cond ty a b tail) o at m = m.0
 made_makes t (Phi ty entries tail) o at m = m.0
 made_makes t (Load ty ptr tail) o at m = absurd m
@@ -83,9 +84,9 @@ pub gives_makes : (f : FuncState) (t s : State) (l : LocalNo) (o : ℕ) (at : �
 gives_makes f t s l o at g e = made_makes t g.inst.inst o at (g.from o at e)
 
 module _ (f : FuncState) (input : Input) (fits : IsInput f input) (numbered : IsNumbered f) (n : ℕ) (t s : State) (h : Holds f input n t) (keeps : Keeps f t s) where
-  -- a pointer that is one of others
-  chosen_told : (l : LocalNo) (o : ℕ) (at : ℤ) (p : Root) → step_of f (Local l) ≡ None → s.locals l.0 ≡ Some (Pointer o at) → Contains (leads_of f (Local l)) p → Told f t p o at → Told f s (Local l) o at
-  chosen_told l o at p none e lead told =
+  -- a pointer that is one of others, or is made of one
+  chosen_told : (l : LocalNo) (o : ℕ) (at from : ℤ) (p : Root) → step_of f (Local l) ≡ None → s.locals l.0 ≡ Some (Pointer o at) → Contains (leads_of f (Local l)) p → Told f t p o from → Told f s (Local l) o at
+  chosen_told l o at from p none e lead told =
       told_root f s l o at told.base none e (brings f (Local l) p told.base lead (root_base f told.steps p told.root told.offset told.base told.ends told.has_base))
       (denotes_later f t s told.base o keeps told.denotes)
 
@@ -105,18 +106,21 @@ module _ (f : FuncState) (input : Input) (fits : IsInput f input) (numbered : Is
   made_told b k x l o at (Gep base offset head index tail) is found maker e m =
       stepped_told l o m.0 at offset base (ap step_by_maker maker) m.2
       (operand_told f input fits n t h b k x Ptr base o m.0 (found, subst (λ i. Contains (map value_in (operands_of i)) base) (sym is) (0, omega arith, refl)) m.1)
+  made_told b k x l o at (StepInst base offset terms head index tail) is found maker e m =
+      let told = operand_told f input fits n t h b k x Ptr base o m.0 (found, subst (λ i. Contains (map value_in (operands_of i)) base) (sym is) (0, omega arith, refl)) m.1 in
+      chosen_told l o at m.0 told.0 (ap step_by_maker maker) e (subst (λ o. Contains (leads_in o) told.0) (sym maker) (val_lead (base ∷ []) base told.0 (0, omega arith, refl) told.1)) told.2
   made_told b k x l o at (Select cond ty a c tail) is found maker e m =
       ⊎_elim
       (λ (first : operand_of t.locals ty a ≡ Some (Pointer o at)).
       let told = operand_told f input fits n t h b k x ty a o at (found, subst (λ i. Contains (map value_in (operands_of i)) a) (sym is) (1, omega arith, refl)) first in
-      chosen_told l o at told.0 (ap step_by_maker maker) e (subst (λ o. Contains (leads_in o) told.0) (sym maker) (val_lead (a ∷ c ∷ []) a told.0 (0, omega arith, refl) told.1)) told.2)
+      chosen_told l o at at told.0 (ap step_by_maker maker) e (subst (λ o. Contains (leads_in o) told.0) (sym maker) (val_lead (a ∷ c ∷ []) a told.0 (0, omega arith, refl) told.1)) told.2)
       (λ (second : operand_of t.locals ty c ≡ Some (Pointer o at)).
       let told = operand_told f input fits n t h b k x ty c o at (found, subst (λ i. Contains (map value_in (operands_of i)) c) (sym is) (2, omega arith, refl)) second in
-      chosen_told l o at told.0 (ap step_by_maker maker) e (subst (λ o. Contains (leads_in o) told.0) (sym maker) (val_lead (a ∷ c ∷ []) c told.0 (1, omega arith, refl) told.1)) told.2)
+      chosen_told l o at at told.0 (ap step_by_maker maker) e (subst (λ o. Contains (leads_in o) told.0) (sym maker) (val_lead (a ∷ c ∷ []) c told.0 (1, omega arith, refl) told.1)) told.2)
       m.1
   made_told b k x l o at (Phi ty entries tail) is found maker e m =
       let told = operand_told f input fits n t h b k x ty m.1.val o at (found, subst (λ i. Contains (map value_in (operands_of i)) m.1.val) (sym is) (entry_used ty entries m.1 m.2)) m.3 in
-      chosen_told l o at told.0 (ap step_by_maker maker) e
+      chosen_told l o at at told.0 (ap step_by_maker maker) e
       (subst (λ o. Contains (leads_in o) told.0) (sym maker) (val_lead (map (λ (x : Entry). x.val) entries) m.1.val told.0 (entry_source entries m.1 m.2) told.1)) told.2
   made_told b k x l o at (Load ty ptr tail) is found maker e m = absurd m
   made_told b k x l o at (Store ty val ptr tail) is found maker e m = absurd m

@@ -12,7 +12,7 @@ use Rattle.ms_ir.specs.declared.inst.Val.{Val}
 use Rattle.ms_ir.specs.declared.inst.Arg.{Arg}
 use Rattle.ms_ir.specs.declared.inst.Effects.{Effects}
 use Rattle.ms_ir.specs.declared.inst.Inst.{Inst}
-use Rattle.ms_ir.specs.declared.inst.Inst.TheVariants.{Alloca as AllocaInst, Gep, Load, Store, Copy, Call, Bin, Cmp, Select, Cast, Phi}
+use Rattle.ms_ir.specs.declared.inst.Inst.TheVariants.{Alloca as AllocaInst, Gep, Step as StepInst, Load, Store, Copy, Call, Bin, Cmp, Select, Cast, Phi}
 use Rattle.ms_ir.specs.Func.{Placed, FuncState, insts_at}
 use Rattle.ms_ir.specs.Uses.{operands_of}
 use Rattle.ms_alias.specs.Roots.{IsFixed}
@@ -23,7 +23,7 @@ use Rattle.ms_meaning.specs.Operations.{operated, compared, converted}
 use Rattle.ms_meaning.specs.Memory.{HoldsByte, Written, object_at, has_bytes, bytes_at, read, spread, is_within, overlap_in_part}
 use Rattle.ms_meaning.specs.States.{Input, State, Answer, Made, IsInput, value_of, operand_of, number_as}
 use Rattle.ms_meaning.specs.Calls.{values_of, points_into, is_passed, is_kept, escaped_with, is_open, may_write_object, is_result, are_reached}
-use Rattle.ms_meaning.specs.Steps.{Deed, Doing, Does, Fails, doing, quiet, gives, from_one, from_two, gives_number, gives_bytes, loads, stores, copies, writes_bytes, chooses, moves, is_offset, calls, answered, made_call}
+use Rattle.ms_meaning.specs.Steps.{Deed, Doing, Does, Fails, doing, quiet, gives, from_one, from_two, gives_number, gives_bytes, loads, stores, copies, writes_bytes, chooses, moves, moves_by, terms_bytes, is_offset, calls, answered, made_call}
 use Rattle.ms_meaning.specs.Traces.{written_by, ReadsByte}
 use Rattle.ms_sound.specs.Objects.{Denotes, IsKnownObject}
 use Rattle.ms_sound.specs.Bytes.{root_value}
@@ -50,7 +50,7 @@ none_in h = let lt : h.0 < 0 = h.1 in omega arith
 
 -- ---- ranges
 
-among_from : (at offset k : ℤ) (len : ℕ) → HoldsByte at len k → HoldsByte ((at -ℤ offset) +ℤ offset) len k
+pub among_from : (at offset k : ℤ) (len : ℕ) → HoldsByte at len k → HoldsByte ((at -ℤ offset) +ℤ offset) len k
 among_from at offset k len h = (let a : at ≤ℤ k = h.0 in omega (arith, ints), let b : k <ℤ (at +ℤ pos len) = h.1 in omega (arith, ints))
 
 -- so many bytes from where a told pointer points to
@@ -61,7 +61,7 @@ span_touches f s v o at k len (p, is, told) among = (
   record { base = told.base; reached = told.has_base; denotes = told.denotes; near = (at -ℤ told.offset, told.fixed, among_from at told.offset k len among) },
 )
 
-spread_in : (o : ℕ) (at : ℤ) (bs : List Byte) (w : Written) → Contains (spread o at bs) w → (w.object ≡ o) × HoldsByte at (length bs) w.offset
+pub spread_in : (o : ℕ) (at : ℤ) (bs : List Byte) (w : Written) → Contains (spread o at bs) w → (w.object ≡ o) × HoldsByte at (length bs) w.offset
 spread_in o at [] w h = absurd (none_in h)
 spread_in o at (b ∷ bs) w (zero, lt, is) =
     let offset : at ≡ w.offset = ap (λ (x : Written). x.offset) is in
@@ -103,6 +103,10 @@ moved_writes : (t : State) (v : Option Value) (by : ℤ) (w : Written) → Conta
 moved_writes t None by w h = none_in h
 moved_writes t (Some (Number u n)) by w h = none_in h
 moved_writes t (Some (Pointer p at)) by w h = none_in (if_written (is_offset (at +ℤ by)) (gives t (Pointer p (at +ℤ by))) w h)
+
+moved_by_writes : (t : State) (v : Option Value) (offset : ℤ) (by : Option ℤ) (w : Written) → Contains (written_by (moves_by t v offset by)) w → ⊥
+moved_by_writes t v offset None w h = none_in h
+moved_by_writes t v offset (Some by) w h = moved_writes t v (offset +ℤ by) w h
 
 chosen_writes : (t : State) (n : Option ℕ) (a b : Option Value) (w : Written) → Contains (written_by (chooses t n a b)) w → ⊥
 chosen_writes t None a b w h = none_in h
@@ -249,6 +253,7 @@ module _ (f : FuncState) (input : Input) (fits : IsInput f input) (n : ℕ) (t :
       )
   written_touches b j x (AllocaInst size head tail) w is found there = absurd (none_in there)
   written_touches b j x (Gep base offset head index tail) w is found there = absurd (moved_writes t (operand_of t.locals Ptr base) offset w there)
+  written_touches b j x (StepInst base offset terms head index tail) w is found there = absurd (moved_by_writes t (operand_of t.locals Ptr base) offset (terms_bytes t.locals terms) w there)
   written_touches b j x (Load ty ptr tail) w is found there = absurd (load_writes t ty (operand_of t.locals Ptr ptr) w there)
   written_touches b j x (Bin op flags ty y z tail) w is found there = absurd (number_writes t ty (from_two (operated op flags (bits ty)) (number_as ty (value_of t.locals y)) (number_as ty (value_of t.locals z))) w there)
   written_touches b j x (Cmp pred flags ty y z tail) w is found there = absurd (number_writes t I1 (from_two (compared pred flags (bits ty)) (number_as ty (value_of t.locals y)) (number_as ty (value_of t.locals z))) w there)
@@ -272,6 +277,7 @@ module _ (f : FuncState) (input : Input) (fits : IsInput f input) (n : ℕ) (t :
   )
   read_touches b j x (AllocaInst size head tail) o k is found reads = absurd reads
   read_touches b j x (Gep base offset head index tail) o k is found reads = absurd reads
+  read_touches b j x (StepInst base offset terms head index tail) o k is found reads = absurd reads
   read_touches b j x (Store ty val ptr tail) o k is found reads = absurd reads
   read_touches b j x (Bin op flags ty y z tail) o k is found reads = absurd reads
   read_touches b j x (Cmp pred flags ty y z tail) o k is found reads = absurd reads
