@@ -5,7 +5,7 @@ use Rattle.std.specs.Prelude.{Contains}
 use Rattle.std.proofs.lemmas.Bool.{cases_Bool, cases_eq, both_ways}
 use Rattle.ms_paths.specs.Flow.{Block as Run, HasEdge, IsPath, IsReached, IsOnEveryPath, IsWalk, IsClosed}
 use Rattle.ms_flow.specs.Table.{next_of}
-use Rattle.ms_flow.specs.Walk.{is_seen, without, beyond}
+use Rattle.ms_flow.specs.Walk.{WalkState, is_seen, without, beyond}
 use Rattle.ms_flow.specs.Flow.{walked, has_reached}
 use Rattle.ms_flow.proofs.Members.{here, here_is, there, in_none, in_cons, in_or_not}
 use Rattle.ms_flow.proofs.Walks.{marked, Leads, Comes, IsDone, AreInside, walk_done}
@@ -97,6 +97,14 @@ cut_told g closed h b lt = (cuts, cut)
         (d.seen b t))
         (λ (f : is_seen (without g h) b ≡ false). inr f)
         (cases_Bool (is_seen (without g h) b))
+
+-- a test by that walk
+pub cut_by : (g : List Run) → IsClosed g → (h b : ℕ) → h < length g → (w : WalkState) → w ≡ without g h → (cut : Bool) →
+    ((cut ≡ true) ↔ ((h ≡ b) ⊎ (is_seen w b ≡ false))) → (cut ≡ true) ↔ IsOnEveryPath g h b
+cut_by g closed h b lt w is cut tells =
+    let told = cut_told g closed h b lt in
+    let same = subst (λ s. (cut ≡ true) ↔ ((h ≡ b) ⊎ (is_seen s b ≡ false))) is tells in
+    (λ t. told.0 (same.0 t), λ every. same.1 (told.1 every))
 
 beyond_done : (g : List Run) → IsClosed g → (b : ℕ) → IsDone g (next_of g b) (replicate (length g) false) (beyond g b)
 beyond_done g closed b = walk_done g (next_of g b) (replicate (length g) false) (inside g closed) (length-replicate (length g) false) (closed.edges_in b)

@@ -86,6 +86,11 @@ pub record AreCycles (g : List Run) (cyclic : List Bool) : Type 0 where
   pub blocks : length cyclic ≡ length g
   pub cycles : (b : ℕ) → b < length g → IsTrue (slice_index_or cyclic b false) ↔ IsOnCycle g b
 
+-- for each block whether every path to it passes h
+pub record AreBehind (g : List Run) (h : ℕ) (passes : List Bool) : Type 0 where
+  pub blocks : length passes ≡ length g
+  pub behind : (b : ℕ) → b < length g → IsTrue (slice_index_or passes b false) ↔ IsOnEveryPath g h b
+
 -- what the tables of a flow graph tell
 pub record IsFlow (g : List Run) (walk : WalkState) (lists : List (List Source)) (in_slots : List ℕ) (order : List (Option ℕ)) (cyclic : List Bool) (reducible : Bool) : Type 0 where
   pub closed : IsClosed g

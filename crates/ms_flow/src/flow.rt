@@ -6,7 +6,7 @@ ghost use Rattle.ms_flow.specs.Table.{edges_of, next_of};
 
 use crate::loops::loop_table;
 use crate::order::{is_reducible, order_table};
-use crate::search::{cuts, cycles, first_walk};
+use crate::search::{behind, cuts, cycles, first_walk};
 use crate::sources::Sources;
 use crate::table::Table;
 use crate::walker::Walker;
@@ -55,10 +55,11 @@ fn count_edge(steps: &mut Steps)
 }
 
 impl Flow {
-    ghost use Rattle.ms_flow.specs.Flow.{IsOnCycle, order_of, sources_of};
+    ghost use Rattle.ms_flow.specs.Flow.{AreBehind, IsOnCycle, order_of, sources_of};
 
     /// The flow graph of a function, which has a block and whose terminators name its own blocks. It takes all the memory that
-    /// the graph needs; each other call takes none. `Err` comes only where memory is wanting, or for 2^31 blocks and more.
+    /// the graph needs; of the other calls only `behind` takes any. `Err` comes only where memory is wanting, or for 2^31 blocks
+    /// and more.
     pub fn of(alloc: Global, func: &Func) -> Result<Flow, NoMemory>
         requires { IsClosed (graph_of func.now.blocks) }
         ensures { IfOk result (λ f. f.graph ≡ edges_of func.now.blocks) }
@@ -187,5 +188,15 @@ impl Flow {
         ensures same { self.new ≡ self.old }
     {
         cuts(&self.table, &mut self.walker, h.0, b.0)
+    }
+
+    /// For each block, by number, whether every path to it passes h: what `cuts` answers, for all blocks by one walk, which passes
+    /// no edge twice. It takes the memory that it needs, so that the graph may be shared. `Err` comes only where memory is
+    /// wanting.
+    pub fn behind(&self, alloc: Global, h: BlockNo) -> Result<Vec<bool>, NoMemory>
+        requires { h.0 < length self.now.graph }
+        ensures { IfOk result (λ t. AreBehind self.now.graph h.0 t.items) }
+    {
+        behind(alloc, &self.table, h.0)
     }
 }

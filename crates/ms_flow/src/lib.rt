@@ -29,7 +29,7 @@
 //! ```
 //!
 //! `cuts(BlockNo(1), BlockNo(3))` is true, since every path to `exit` passes `head`; `cuts(BlockNo(2), BlockNo(3))` is false. The graph is reducible:
-//! every path to a block of its cycle passes `head`.
+//! every path to a block of its cycle passes `head`. `behind(alloc, BlockNo(1))` has true for the blocks 1 to 4, the last of them not reached.
 //!
 //! **What it is.** Block 0 is the entry, and a block is reached where a path leads from there to it. Targets have slots: 0 for true and 1 for false,
 //! or 0 alone; a branch whose two targets are one block has two edges. An [`Edge`] is known by its slot at both ends: `out_slot` among the targets of
@@ -38,10 +38,10 @@
 //! from block 0 that goes depth first and takes slot 0 first.
 //!
 //! **Why it is so.** What is elsewhere asked of a tree of dominators is asked of paths here: whether every path to one block passes another (`cuts`)
-//! is a search that goes around the other. It can be read off the definition, and no tree has to be kept up to date where an edge is cut. Contracts
-//! see the edges without the instructions, so the graph stays what it is when an instruction comes or goes. `of` takes all memory that is needed, so
-//! that what stands on a flow graph can be kept up to date without any. `succ` and `pred` count each edge that they answer on [`ms_ir::Steps`], so
-//! that a call above can say how many edges it reads.
+//! is a search that goes around the other, and one such search tells it of all blocks (`behind`). It can be read off the definition, and no tree has
+//! to be kept up to date where an edge is cut. Contracts see the edges without the instructions, so the graph stays what it is when an instruction
+//! comes or goes. `of` takes all memory that is needed, so that what stands on a flow graph can be kept up to date without any. `succ` and `pred`
+//! count each edge that they answer on [`ms_ir::Steps`], so that a call above can say how many edges it reads.
 //!
 //! **What a caller may assume.** Each answer is exact, by the clause of its call. `order` is none exactly where the block is not reached. What `succ`
 //! gives is found again by `pred` at its `in_slot`. The laws say what the answers are good for. [`same_paths`]: the paths are those of the function's
@@ -52,8 +52,8 @@
 //! **What a caller may not assume.** `of` asks for a function that has a block and whose terminators name its own blocks. `succ` and `pred` ask for a
 //! reached block and a slot below the count, all other calls for a block of the function. Edges from blocks that are not reached are not listed, and
 //! of such a block `cuts` says that every path to it passes everything. A graph need not be reducible: what needs that asks `reducible`. A flow graph
-//! does not follow its function: where a terminator changes, it is still that of the function before. `cuts` walks anew at each call, and no clause
-//! bounds its time.
+//! does not follow its function: where a terminator changes, it is still that of the function before. `cuts` and `behind` walk anew at each call, and
+//! no clause bounds their time.
 #![tactic(auto)]
 
 mod flow;

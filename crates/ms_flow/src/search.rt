@@ -1,7 +1,8 @@
 // What walks tell of the blocks.
-ghost use Rattle.std.specs.Prelude.{◌≡◌, ◌<◌, ◌↔◌, ℕ, List, ◌∷◌, IfOk, IsTrue, Option, Some, None, is_some, length, slice_index_or};
+ghost use Rattle.std.specs.Prelude.{◌≡◌, ◌<◌, ◌↔◌, ◌⊎◌, ℕ, false, List, ◌∷◌, IfOk, IsTrue, Option, Some, None, is_some, length, slice_index_or};
 ghost use Rattle.ms_paths.specs.Flow.{IsClosed, IsOnEveryPath, IsReached, IsWalk};
-ghost use Rattle.ms_flow.specs.Flow.{AreCycles, AreOrdered, IsOnCycle, walked};
+ghost use Rattle.ms_flow.specs.Flow.{AreBehind, AreCycles, AreOrdered, IsOnCycle, walked};
+ghost use Rattle.ms_flow.specs.Walk.{is_seen};
 
 use crate::table::Table;
 use crate::walker::Walker;
@@ -19,6 +20,14 @@ pub fn first_walk(alloc: Global, table: &Table) -> Result<Walker, NoMemory>
     Ok(walker)
 }
 
+// Whether every path to b passes h, where the walk was one without h.
+fn is_cut(walker: &Walker, h: u32, b: u32) -> bool
+    requires { b < length walker.now.seen }
+    ensures { IsTrue result ↔ ((h ≡ b) ⊎ (is_seen walker.now b ≡ false)) }
+{
+    h == b || !walker.has_seen(b)
+}
+
 /// Whether every path to b passes h.
 pub fn cuts(table: &Table, walker: &mut Walker, h: u32, b: u32) -> bool
     requires closed { IsClosed table.now }
@@ -29,7 +38,22 @@ pub fn cuts(table: &Table, walker: &mut Walker, h: u32, b: u32) -> bool
     ensures blocks { length walker.new.seen ≡ length table.now }
 {
     walker.visit_without(table, h);
-    h == b || !walker.has_seen(b)
+    is_cut(walker, h, b)
+}
+
+/// For each block whether every path to it passes h, by one walk.
+pub fn behind(alloc: Global, table: &Table, h: u32) -> Result<Vec<bool>, NoMemory>
+    requires closed { IsClosed table.now }
+    requires h { h < length table.now }
+    ensures { IfOk result (λ t. AreBehind table.now h t.items) }
+{
+    let mut walker = Walker::new(alloc, table.len())?;
+    walker.visit_without(table, h);
+    let mut passes = Vec::from_elem(alloc, false, table.len() as usize)?;
+    for b in 0..table.len() {
+        passes[b as usize] = is_cut(&walker, h, b);
+    }
+    Ok(passes)
 }
 
 // Whether a walk of at least one edge leads from a block back to it.

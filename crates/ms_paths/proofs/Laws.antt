@@ -35,20 +35,22 @@ needed_told g E once closed =
     let r = needed_core g closed (has g E) in
     (r.0, λ b. (λ t. needed_from_core g E b once ((r.1 b).0 t), λ n. (r.1 b).1 (needed_to_core g E b n)))
 
+-- with phis that suffice, all paths bring one last event into a block, or there is a phi
+pub same_begun : (g : List Block) (E S : ℕ → Bool) → Suffices g E S → (b : ℕ) (p q : List ℕ) → IsPath g b p → IsPath g b q →
+    entered S b (last_event g E S p) ≡ entered S b (last_event g E S q)
+same_begun g E S s b p q hp hq =
+    ⊎_elim (λ (t : S b ≡ true). cond-true (S b) (Phi b) (last_event g E S p) t ∙ sym (cond-true (S b) (Phi b) (last_event g E S q) t))
+    (λ (f : S b ≡ false). ap (entered S b) (s.one_event b p q hp hq f))
+    (cases_Bool (S b))
+
 pub has_answer : (g : List Block) (E : ℕ → Bool) → StandsOnce g → IsClosed g → (b k : ℕ) → IsReached g b → (e : Event) × IsAnswer g E b k e
-has_answer g E once closed b k r = (last_event_at g E N b k r.0, record { phis = N; phis_are = is; is_last = λ p h. ap (after E (take k (block_at g b).events)) (begun p h) })
+has_answer g E once closed b k r = (last_event_at g E N b k r.0, record { phis = N; phis_are = is; is_last = λ p h. ap (after E (take k (block_at g b).events)) (same_begun g E N (needed_suffice g E N once is) b p r.0 h r.1) })
   where
     N : ℕ → Bool
     N = (needed_told g E once closed).0
 
     is : IsNeeded g E N
     is = (needed_told g E once closed).1
-
-    begun : (p : List ℕ) → IsPath g b p → entered N b (last_event g E N p) ≡ entered N b (last_event g E N r.0)
-    begun p h =
-        ⊎_elim (λ (t : N b ≡ true). cond-true (N b) (Phi b) (last_event g E N p) t ∙ sym (cond-true (N b) (Phi b) (last_event g E N r.0) t))
-        (λ (f : N b ≡ false). ap (entered N b) ((needed_suffice g E N once is).one_event b p r.0 h r.1 f))
-        (cases_Bool (N b))
 
 -- a last event that is an instruction was met
 pub after_of : (E : ℕ → Bool) (is : List ℕ) (e : Event) (i : ℕ) → after E is e ≡ Of i → Contains is i ⊎ (e ≡ Of i)

@@ -35,16 +35,26 @@ avoids_at Q [] a k v l e = absurd (omega arith)
 avoids_at Q (x ∷ p) a zero v l e = subst (λ y. Q y ≡ false) e v.0
 avoids_at Q (x ∷ p) a (suc k) v l e = avoids_at Q p a k v.1 (omega arith) e
 
+-- one block has the instruction
+pub one_block : (g : List Block) (q : ℕ) → StandsOnce g → (x y : ℕ) → has g (just q) x ≡ true → has g (just q) y ≡ true → x ≡ y
+one_block g q once x y s t =
+    let a = after_some (just q) (block_at g x).events s in
+    let d = after_some (just q) (block_at g y).events t in
+    once x y q (subst (Contains (block_at g x).events) (eqb-true a.0 q a.2) a.1) (subst (Contains (block_at g y).events) (eqb-true d.0 q d.2) d.1)
+
+pub not_before : (g : List Block) (q : ℕ) (p : List ℕ) → Avoids (has g (just q)) p → (a : ℕ) × Contains p a × Contains (block_at g a).events q → ⊥
+not_before g q p v m =
+    both_ways (has g (just q) m.0) (avoids_at (has g (just q)) p m.0 m.1.0 v m.1.1 m.1.2)
+    (any_at (just q) (block_at g m.0).events q m.2.0 m.2.1 m.2.2 (eq-eqb q q refl))
+
 module _ (g : List Block) (q : ℕ) (c k : ℕ) (lies : LiesOnEvery g q c k) (none : any_of (just q) (take k (block_at g c).events) ≡ false) where
-  past_q : (p : List ℕ) → IsPath g c p → Avoids (has g (just q)) p → ⊥
+  pub past_q : (p : List ℕ) → IsPath g c p → Avoids (has g (just q)) p → ⊥
   past_q p h a =
       ⊎_elim
       (λ (m : Contains (take k (block_at g c).events) q).
       both_ways (any_of (just q) (take k (block_at g c).events)) none
       (any_at (just q) (take k (block_at g c).events) q m.0 m.1 m.2 (eq-eqb q q refl)))
-      (λ (m : (a : ℕ) × Contains p a × Contains (block_at g a).events q).
-      both_ways (has g (just q) m.0) (avoids_at (has g (just q)) p m.0 m.1.0 a m.1.1 m.1.2)
-      (any_at (just q) (block_at g m.0).events q m.2.0 m.2.1 m.2.2 (eq-eqb q q refl)))
+      (λ (m : (a : ℕ) × Contains p a × Contains (block_at g a).events q). not_before g q p a m)
       (lies p h)
 
 pub needs_without : (g : List Block) (q : ℕ) (D E : ℕ → Bool) (b c k : ℕ) → StandsOnce g → IsClosed g → ((i : ℕ) → IsTrue (E i) → IsTrue (D i)) →
@@ -52,10 +62,7 @@ pub needs_without : (g : List Block) (q : ℕ) (D E : ℕ → Bool) (b c k : ℕ
 needs_without g q D E b c k once closed sub rc lies answer =
     let r = which in
     needed_from_core g D b once
-    (through_needed g (has g D) (has g (and_one q D)) (has g (just q)) one
-    (has_fewer g D (and_one q D) (λ i t. or_right (just q i) (D i) t))
-    (has_fewer g (just q) (and_one q D) (λ i t. or_left (just q i) (D i) t))
-    (λ x t. any_split q D (block_at g x).events t)
+    (through_needed g (has g D) (has g (and_one q D)) (has g (just q)) (one_block g q once) (λ x _ _ f. same_has x f)
     (length g) (reached_in g closed) b r.1 r.2
     (needed_to_core g (and_one q D) b
     (needed_more g (and_one q E) (and_one q D) once
@@ -86,11 +93,13 @@ needs_without g q D E b c k once closed sub rc lies answer =
     begun : entered N c (last_event g (and_one q E) N rc.0) ≡ Phi b
     begun = sym (after_none (and_one q E) ran clear (entered N c (last_event g (and_one q E) N rc.0))) ∙ at
 
-    one : (x y : ℕ) → has g (just q) x ≡ true → has g (just q) y ≡ true → x ≡ y
-    one x y s t =
-        let a = after_some (just q) (block_at g x).events s in
-        let d = after_some (just q) (block_at g y).events t in
-        once x y q (subst (Contains (block_at g x).events) (eqb-true a.0 q a.2) a.1) (subst (Contains (block_at g y).events) (eqb-true d.0 q d.2) d.1)
+    same_has : (x : ℕ) → has g (just q) x ≡ false → has g D x ≡ has g (and_one q D) x
+    same_has x f =
+        ⊎_elim (λ (t : has g D x ≡ true). t ∙ sym (has_fewer g D (and_one q D) (λ i t. or_right (just q i) (D i) t) x t))
+        (λ (n : has g D x ≡ false). n ∙ sym (false_from_ne_true (has g (and_one q D) x) (λ t.
+        ⊎_elim (λ (s : has g (just q) x ≡ true). both_ways (has g (just q) x) f s) (λ (s : has g D x ≡ true). both_ways (has g D x) n s)
+        (any_split q D (block_at g x).events t))))
+        (cases_Bool (has g D x))
 
     which : (N b ≡ true) × IsReached g b × Through g (has g (just q)) b
     which =

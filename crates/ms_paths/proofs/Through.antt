@@ -1,7 +1,7 @@
--- Phis where one more event lies on every path.
+-- Phis behind a block that lies on every path.
 use Rattle.std.proofs.Common.{arith, ◌≡◌, ℕ, ◌<◌, Bool, true, false, not, ◌||◌, ◌⊎◌, ◌↔◌, List, [], ◌∷◌, ◌++◌, length, Option, Some, None, refl, sym, ap, ◌∙◌, subst, inl, inr, ⊎_elim, append_assoc}
 use Rattle.std.proofs.lemmas.Bool.Decides.{nat_tests}
-use Rattle.std.proofs.lemmas.Bool.{cases_Bool, both_ways, or_left, or_cases, or_parts, true_from_ne_false, not-true, not-false}
+use Rattle.std.proofs.lemmas.Bool.{cases_Bool, both_ways, or_cases, or_parts, true_from_ne_false, false_from_ne_true, not-true, not-false}
 use Rattle.ms_paths.specs.Flow.{Block, IsPath, IsReached}
 use Rattle.ms_paths.proofs.First.{first, Avoids, Found, found, first_at, first_past, first_skip, first_none, cut, graft, shorter, by_length}
 use Rattle.ms_paths.proofs.Core.{stop, Enough, Needed}
@@ -62,10 +62,16 @@ record Clear (g : List Block) (F W Q : ℕ → Bool) (p : List ℕ) : Type 0 whe
   wide : first W p ≡ Some at
 
 module _ (g : List Block) (A B Q : ℕ → Bool) (one : (x y : ℕ) → Q x ≡ true → Q y ≡ true → x ≡ y)
-    (more : (x : ℕ) → A x ≡ true → B x ≡ true) (with_q : (x : ℕ) → Q x ≡ true → B x ≡ true) (only : (x : ℕ) → B x ≡ true → (Q x ≡ true) ⊎ (A x ≡ true))
+    (same : (x : ℕ) → IsReached g x → Through g Q x → Q x ≡ false → A x ≡ B x)
     (S R : ℕ → Bool) (s : Enough g A S) (is : (x : ℕ) → IsReached g x → (R x ≡ true) ↔ Through g Q x) where
-  alike : (z : ℕ) → Q z ≡ false → R z ≡ true → stop B (widened S R) z ≡ stop A S z
-  alike z n r = let a = more z in let b = only z in grind (arith, nat_tests)
+  alike : (z : ℕ) → A z ≡ B z → R z ≡ true → stop B (widened S R) z ≡ stop A S z
+  alike z n r = grind (arith, nat_tests)
+
+  -- a block that passes is widened by
+  stops_there : (y : ℕ) → Q y ≡ true → IsReached g y → stop B (widened S R) y ≡ true
+  stops_there y q r =
+      let out = false_from_ne_true (R y) (λ t. let w = fresh g Q one y q r.0 r.1 in ((is y r).0 t).passes w.0 w.1 w.2) in
+      grind (arith, nat_tests)
 
   seen : (x : ℕ) (p : List ℕ) → Through g Q x → IsPath g x p → Met g (stop A S) (stop B (widened S R)) Q p ⊎ Clear g (stop A S) (stop B (widened S R)) Q p
   seen x p through h = go (first Q p) refl
@@ -88,7 +94,7 @@ module _ (g : List Block) (A B Q : ℕ → Bool) (one : (x y : ℕ) → Q x ≡ 
               (through_front g Q x d.front z (d.rest ++ y ∷ c.rest) through whole a.0 a.1.0, (d.rest ++ y ∷ c.rest, cut g x d.front z (d.rest ++ y ∷ c.rest) whole), a.1.0)
 
           agree : first (stop B (widened S R)) c.front ≡ first (stop A S) c.front
-          agree = first_agree (stop B (widened S R)) (stop A S) c.front (λ z t. let i = inner z t in alike z i.2 ((is z i.1).1 i.0))
+          agree = first_agree (stop B (widened S R)) (stop A S) c.front (λ z t. let i = inner z t in alike z (same z i.1 i.0 i.2) ((is z i.1).1 i.0))
 
           further : (o : Option ℕ) → first (stop A S) c.front ≡ o → Met g (stop A S) (stop B (widened S R)) Q p ⊎ Clear g (stop A S) (stop B (widened S R)) Q p
           further None n = inr (record {
@@ -100,7 +106,7 @@ module _ (g : List Block) (A B Q : ℕ → Bool) (one : (x y : ℕ) → Q x ≡ 
             passes = c.stops;
             wide = ap (first (stop B (widened S R))) c.is
                 ∙ first_skip (stop B (widened S R)) c.front (y ∷ c.rest) (first_none (stop B (widened S R)) c.front (agree ∙ n))
-                ∙ first_at (stop B (widened S R)) y c.rest (or_left (B y) (widened S R y) (with_q y c.stops));
+                ∙ first_at (stop B (widened S R)) y c.rest (stops_there y c.stops (c.rest, cut g x c.front y c.rest path));
           })
           further (Some z) n =
               let i = inner z (first_on (stop A S) c.front z n) in
@@ -144,12 +150,12 @@ module _ (g : List Block) (A B Q : ℕ → Bool) (one : (x y : ℕ) → Q x ≡ 
         (seen x p t hp);
   }
 
--- what needs a phi with one more event, which each path to it passes, needs one without it
+-- behind the block that passes, where each path to a block has it, the same blocks need a phi for events that are the same there
 pub through_needed : (g : List Block) (A B Q : ℕ → Bool) → ((x y : ℕ) → Q x ≡ true → Q y ≡ true → x ≡ y) →
-    ((x : ℕ) → A x ≡ true → B x ≡ true) → ((x : ℕ) → Q x ≡ true → B x ≡ true) → ((x : ℕ) → B x ≡ true → (Q x ≡ true) ⊎ (A x ≡ true)) →
+    ((x : ℕ) → IsReached g x → Through g Q x → Q x ≡ false → A x ≡ B x) →
     (m : ℕ) → ((x : ℕ) → IsReached g x → x < m) → (b : ℕ) → IsReached g b → Through g Q b → Needed g B b → Needed g A b
-through_needed g A B Q one more with_q only m within b rb t need = λ S s.
+through_needed g A B Q one same m within b rb t need = λ S s.
     true_from_ne_false (S b) (λ f. told (λ x. Through g Q x) m (λ R near.
     let is : (x : ℕ) → IsReached g x → (R x ≡ true) ↔ Through g Q x = λ x rx. near x (within x rx) in
     ⊎_elim (λ (k : S b ≡ true). both_ways (S b) f k) (λ (k : not (R b) ≡ true). both_ways (R b) (not-true (R b) k) ((is b rb).1 t))
-    (or_cases (S b) (not (R b)) (need (widened S R) (through_enough g A B Q one more with_q only S R s is)))))
+    (or_cases (S b) (not (R b)) (need (widened S R) (through_enough g A B Q one same S R s is)))))
