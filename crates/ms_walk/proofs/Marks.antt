@@ -19,25 +19,24 @@ use Rattle.ms_walk.specs.Turn.{is_marked, IsBehind, is_past, AreMarked, AreMarke
 use Rattle.ms_walk.proofs.Passed.{stands_at, in_one_place}
 
 -- one more instruction is marked
-pub mark_more : (blocks : List Block) (starts : List Bool) (home place b n : ℕ) (old now : List Bool) (x : Placed) (t : Bool) → OnePlaced blocks
-    → x.number < length old → slice_get (insts_at blocks b) n ≡ Some x → t ≡ is_past starts home place b n
-    → AreMarked blocks starts home place b n old now → AreMarked blocks starts home place b (n + 1) old (set now x.number t)
-mark_more blocks starts home place b n old now x t one lt found is h = record {
-  size = length-set now x.number t ∙ h.size;
-  here = λ k y at below. ⊎_elim
+pub mark_more : (blocks : List Block) (starts : List Bool) (home place b n : ℕ) (old now : List Bool) (i : ℕ) (x : Placed) (t : Bool) → OnePlaced blocks
+    → i < length old → IsAt blocks i b n x → t ≡ is_past starts home place b n
+    → AreMarked blocks starts home place b n old now → AreMarked blocks starts home place b (n + 1) old (set now i t)
+mark_more blocks starts home place b n old now i x t one lt at is h = record {
+  size = length-set now i t ∙ h.size;
+  here = λ k y there below. ⊎_elim
       (λ (e : k ≡ n).
-      let same : y.number ≡ x.number = number_here k y at e in
-      ap (λ (m : ℕ). is_marked (set now x.number t) m) same ∙ get_or-set_same now x.number t false (omega (arith, lt, h.size)) ∙ is ∙ ap (is_past starts home place b) (sym e))
+      ap (λ (m : ℕ). is_marked (set now i t) m) (number_here k y there e) ∙ get_or-set_same now i t false (omega (arith, lt, h.size)) ∙ is ∙ ap (is_past starts home place b) (sym e))
       (λ (ne : k ≡ n → ⊥).
-      get_or-set_other now x.number y.number t false (λ e. ne (one b k b n y x at found e).1) ∙ h.here k y at (omega (arith, below, ne)))
+      get_or-set_other now i y.number t false (λ e. ne (one b k b n y x there at.found (e ∙ sym at.numbered)).1) ∙ h.here k y there (omega (arith, below, ne)))
       (cases_eq k n);
-  others = λ c k y at ne. get_or-set_other now x.number y.number t false (λ e. ne (one c k b n y x at found e).0) ∙ h.others c k y at ne;
+  others = λ c k y there ne. get_or-set_other now i y.number t false (λ e. ne (one c k b n y x there at.found (e ∙ sym at.numbered)).0) ∙ h.others c k y there ne;
 } where
-  number_here : (k : ℕ) (y : Placed) → slice_get (insts_at blocks b) k ≡ Some y → k ≡ n → y.number ≡ x.number
-  number_here k y at e =
-      let both : Some y ≡ Some x = sym at ∙ ap (slice_get (insts_at blocks b)) e ∙ found in
+  number_here : (k : ℕ) (y : Placed) → slice_get (insts_at blocks b) k ≡ Some y → k ≡ n → y.number ≡ i
+  number_here k y there e =
+      let both : Some y ≡ Some x = sym there ∙ ap (slice_get (insts_at blocks b)) e ∙ at.found in
       let same : y ≡ x = cc in
-      ap (λ (z : Placed). z.number) same
+      ap (λ (z : Placed). z.number) same ∙ at.numbered
 
 -- one more block
 pub block_more : (blocks : List Block) (starts : List Bool) (home place b n : ℕ) (old new : List Bool) → n ≡ length (insts_at blocks b)

@@ -1,42 +1,21 @@
 -- The clobber of a location whose root is made anew at each turn of a loop.
-use Rattle.std.proofs.Common.{◌≡◌, ◌≢◌, ◌↔◌, inl, inr, ℕ, Bool, true, false, List, if◌then◌else◌, sym, ◌∙◌, ap, subst}
-use Rattle.std.specs.Prelude.{IsTrue, Some, slice_get}
+use Rattle.std.proofs.Common.{◌≡◌, ◌≢◌, ◌↔◌, inl, inr, refl, ℕ, Bool, true, false, List, if◌then◌else◌, sym, ◌∙◌, ap, subst}
+use Rattle.std.specs.Prelude.{IsTrue}
 use Rattle.std.proofs.lemmas.Bool.{both_ways}
 use Rattle.ms_paths.specs.Flow.{Block as Run, Event, Of, IsReached, IsAnswer, IsClosed, LiesOnEvery, StandsAt, StandsInOnePlace, and_one}
 use Rattle.ms_paths.specs.Passed.{beyond}
-use Rattle.ms_ir.specs.Func.{Placed, FuncState, IsAt, insts_at}
+use Rattle.ms_ir.specs.Func.{Placed, FuncState, IsAt}
 use Rattle.ms_ir.specs.Graph.{graph_of, defs_of}
 use Rattle.ms_build.proofs.Define.{OnePlaced}
 use Rattle.ms_climb.specs.Answer.{StandsReached, AreDefs}
-use Rattle.ms_ir.specs.Locals.{IsNumbered}
-use Rattle.ms_alias.specs.declared.loc.Root.{Root}
-use Rattle.ms_alias.specs.declared.loc.Root.TheVariants.{Local, Global}
 use Rattle.ms_alias.specs.declared.loc.Loc.{Loc}
-use Rattle.ms_alias.specs.declared.loc.Loc.TheVariants.{Bytes, ReadBy}
-use Rattle.ms_alias.proofs.Makers.{giver_from}
 use Rattle.ms_alias.specs.Tables.{AliasState}
-use Rattle.ms_alias.specs.Roots.{IsTurnedBy}
 use Rattle.ms_alias.specs.Meeting.{MayWriteInTurn}
 use Rattle.ms_alias.specs.Tests.{may_write_in_turn_by}
 use Rattle.ms_walk.specs.Clobber.{IsLastWriterBefore, IsLastInTurn, IsTurned, IsTurnedAt, IsClobberAt, IsClobber}
 use Rattle.ms_walk.specs.Turn.{is_marked, IsBehind, ends_turn}
 use Rattle.ms_walk.proofs.Passed.{passed_stands, is_at, in_one_place}
 use Rattle.ms_walk.proofs.Writing.{writer_in_turn_is_def}
-
-same_number : (xs : List Placed) (j k : ℕ) (x y : Placed) → slice_get xs j ≡ Some x → slice_get xs k ≡ Some y → j ≡ k → x.number ≡ y.number
-same_number xs j k x y a c e = let both : Some x ≡ Some y = sym a ∙ ap (slice_get xs) e ∙ c in let same : x ≡ y = cc in ap (λ (z : Placed). z.number) same
-
--- one instruction makes the root
-one_maker : (f : FuncState) → IsNumbered f → (root : Root) (p q : ℕ) → IsTurnedBy f root p → IsTurnedBy f root q → p ≡ q
-one_maker f n (Local l) p q h k =
-    let place = n.one_giver l h.1 h.2 k.1 k.2 h.3 k.3 (record { found = h.4.found; gives = giver_from l h.3 h.5 }) (record { found = k.4.found; gives = giver_from l k.3 k.5 }) in
-    let there : slice_get (insts_at f.blocks k.1) h.2 ≡ Some h.3 = subst (λ (b : ℕ). slice_get (insts_at f.blocks b) h.2 ≡ Some h.3) place.0 h.4.found in
-    sym h.4.numbered ∙ same_number (insts_at f.blocks k.1) h.2 k.2 h.3 k.3 there k.4.found place.1 ∙ k.4.numbered
-one_maker f n (Global g) p q h k = absurd h
-
-pub one_turning : (f : FuncState) → IsNumbered f → (loc : Loc) (p q : ℕ) → IsTurned f loc p → IsTurned f loc q → p ≡ q
-one_turning f n (Bytes root from len) p q h k = one_maker f n root p q h k
-one_turning f n (ReadBy j) p q h k = absurd h
 
 clobber_at : (f : FuncState) (i : ℕ) (loc : Loc) (e : Event) → (r : StandsReached f.blocks i) → IsClobberAt f r.block r.place loc e → IsClobber f i loc e
 clobber_at f i loc e r h = record { block = r.block; place = r.place; inst = r.inst; at = r.at; reached = r.reached; clobber = h }
@@ -96,7 +75,11 @@ AnswerBehind =
 -- behind q the search ends at what may write in q's turn
 ends_behind : (f : FuncState) (a : AliasState) (loc : Loc) (insts : List Bool) (i : ℕ) → IsTrue (is_marked insts i) → IsTrue (ends_turn f a loc insts i) ↔ IsTrue (may_write_in_turn_by f a loc i)
 unfolding ends_turn
-ends_behind f a loc insts i on = let same : ends_turn f a loc insts i ≡ may_write_in_turn_by f a loc i = rw on refl in ((λ t. sym same ∙ t), (λ t. same ∙ t))
+ends_behind f a loc insts i on = let same : ends_turn f a loc insts i ≡ may_write_in_turn_by f a loc i = by_mark (is_marked insts i) on in ((λ t. sym same ∙ t), (λ t. same ∙ t))
+  where
+    by_mark : (m : Bool) → m ≡ true → (if m then may_write_in_turn_by f a loc i else defs_of f.blocks i) ≡ may_write_in_turn_by f a loc i
+    by_mark true e = refl
+    by_mark false e = cc
 
 pub ends_are_defs : (f : FuncState) (a : AliasState) (loc : Loc) (insts : List Bool) → OnePlaced f.blocks → ((j : ℕ) → IsTrue (may_write_in_turn_by f a loc j) ↔ MayWriteInTurn f j loc)
     → AreDefs f.blocks (ends_turn f a loc insts)

@@ -21,6 +21,7 @@ pub fn one_clobber()
 pub fn clobber_holds()
     ensures { (f : FuncState) (i : ℕ) (loc : Loc) (e : Event) → IsNumbered f → IsSoundFunc f → IsClobber f i loc e → IsSound f i loc e }
 {
-    ms_sound::clobbers_are_sound();
     ms_sound::sound_functions_begin_once();
+    ms_sound::clobbers_are_sound();
+    ms_sound::turning_clobbers_are_sound();
 }

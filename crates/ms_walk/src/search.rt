@@ -1,13 +1,15 @@
 // The clobber of a location.
-ghost use Rattle.std.specs.Prelude.{◌≡◌, ◌↔◌, ℕ, IfOk, IsTrue, MatchOption};
+ghost use Rattle.std.specs.Prelude.{◌≡◌, ◌↔◌, ℕ, IfOk, IfSome, IsTrue, MatchOption};
 ghost use Rattle.ms_paths.specs.Flow.{IsClosed, IsReducible, Of};
 ghost use Rattle.ms_ir.specs.Func.{Placed, IsAt};
 ghost use Rattle.ms_ir.specs.Graph.{graph_of};
+ghost use Rattle.ms_ir.specs.SoundFunc.{IsSoundFunc};
 ghost use Rattle.ms_flow.specs.Table.{edges_of};
 ghost use Rattle.ms_build.specs.Accesses.{event_of};
 ghost use Rattle.ms_build.specs.Built.{IsFormOf};
 ghost use Rattle.ms_climb.specs.Answer.{StandsReached};
 ghost use Rattle.ms_alias.specs.Tables.{IsAliasOf};
+ghost use Rattle.ms_sound.specs.Bytes.{IsSound};
 ghost use Rattle.ms_walk.specs.Clobber.{IsClobber, IsLastInTurn, IsLastWriterBefore, IsTurned};
 ghost use Rattle.ms_walk.specs.Pointed.{IsPointed};
 ghost use Rattle.ms_walk.specs.Turn.{IsBehind, is_marked};
@@ -87,7 +89,7 @@ fn is_inst(a: Access, q: InstNo) -> bool
     }
 }
 
-// The clobber of bytes at a turning root, which q makes.
+// The clobber of bytes at a turning root, which q alone makes.
 fn walk_in_turn(
     alloc: Global,
     of: &Pointed,
@@ -98,6 +100,7 @@ fn walk_in_turn(
     requires pointed { IsPointed of.now.func.now of.now.flow.now.graph of.now.form.now of.now.alias.now }
     requires reached { StandsReached of.now.func.now.blocks i.0 }
     requires turned { IsTurned of.now.func.now loc.now q.0 }
+    requires only { (p : ℕ) → IsTurned of.now.func.now loc.now p → p ≡ q.0 }
     ensures { IfOk result (λ a. IsClobber of.now.func.now i.0 loc.now (event_of a)) }
 {
     of.func.numbered();
@@ -115,7 +118,8 @@ fn walk_in_turn(
 // What makes the root of a location's bytes, where it is turning.
 fn turned_by(of: &Pointed, loc: &Loc) -> Option<InstNo>
     requires { IsPointed of.now.func.now of.now.flow.now.graph of.now.form.now of.now.alias.now }
-    ensures { MatchOption result ((q : ℕ) → IsTurned of.now.func.now loc.now q → ⊥) (λ q. IsTurned of.now.func.now loc.now q.0) }
+    ensures made { MatchOption result ((q : ℕ) → IsTurned of.now.func.now loc.now q → ⊥) (λ q. IsTurned of.now.func.now loc.now q.0) }
+    ensures one { IfSome result (λ q. (p : ℕ) → IsTurned of.now.func.now loc.now p → p ≡ q.0) }
 {
     match *loc {
         Loc::Bytes { root, .. } => of.alias.turning(of.func, root),
@@ -136,9 +140,10 @@ fn walk_at(alloc: Global, of: &Pointed, i: InstNo, loc: &Loc) -> Result<Access, 
 }
 
 /// The clobber of a location before an instruction: the last one on every path that may write it, with phis where those need
-/// one; the entry where none is before it. The flow graph, the form and
-/// the alias table are the function's, and the graph is reducible. The instruction stands in a reached block. `Err` comes only
-/// where memory is wanting.
+/// one; the entry where none is before it. Of bytes at a root that a loop makes anew at each turn the turn counts first. In a sound function
+/// the clobber holds on every run: from when it took place last up to the instruction no step writes a byte of the location. The flow graph, the
+/// form and the alias table are the function's, and the graph is reducible. The instruction stands in a reached block. `Err` comes
+/// only where memory is wanting.
 pub fn walk(
     alloc: Global,
     func: &Func,
@@ -155,7 +160,12 @@ pub fn walk(
     requires alias { IsAliasOf func.now alias.now }
     requires reached { StandsReached func.now.blocks i.0 }
     ensures clobber { IfOk result (λ a. IsClobber func.now i.0 loc.now (event_of a)) }
+    ensures sound { IsSoundFunc func.now → IfOk result (λ a. IsSound func.now i.0 loc.now (event_of a)) }
 {
+    func.numbered();
+    ms_sound::sound_functions_begin_once();
+    ms_sound::clobbers_are_sound();
+    ms_sound::turning_clobbers_are_sound();
     let of = Pointed {
         func,
         flow,
