@@ -59,7 +59,8 @@ impl Session {
     ghost use Rattle.ms_climb.specs.Answer.{StandsReached};
     ghost use Rattle.ms_alias.specs.Offsets.{AreOffsetsNear};
     ghost use Rattle.ms_alias.specs.Tables.{IsAliasOf};
-    ghost use Rattle.ms_sound.specs.Bytes.{BeginsOnce, IsSound};
+    ghost use Rattle.ms_ir.specs.SoundFunc.{IsSoundFunc};
+    ghost use Rattle.ms_sound.specs.Bytes.{IsSound};
     ghost use Rattle.ms_walk.specs.Clobber.{IsClobber};
     ghost use Rattle.ms_session.specs.Annotated.{IsAnnotated, HasUses};
 
@@ -104,13 +105,12 @@ impl Session {
         Ok(Printed { text, walks })
     }
 
-    /// The clobber of a location before an instruction of a reached block: the last one on every path that may write it. Where allocas stand
-    /// in the first block, to which no edge leads, it holds on every run: from when it took place last up to the instruction, no step writes
-    /// a byte of the location.
+    /// The clobber of a location before an instruction of a reached block: the last one on every path that may write it. In a sound function
+    /// it holds on every run: from when it took place last up to the instruction, no step writes a byte of the location.
     pub fn clobber(&mut self, i: InstNo, loc: &Loc) -> Result<Found, NoMemory>
         requires { StandsReached self.old.blocks i.0 }
         ensures clobber { IfOk result (λ found. IsClobber self.old i.0 loc.now (event_of found.access)) }
-        ensures sound { BeginsOnce self.old → IfOk result (λ found. IsSound self.old i.0 loc.now (event_of found.access)) }
+        ensures sound { IsSoundFunc self.old → IfOk result (λ found. IsSound self.old i.0 loc.now (event_of found.access)) }
         ensures walked { IfOk result (λ found. found.walked ≡ true) }
         ensures same { self.new ≡ self.old }
     {

@@ -305,7 +305,7 @@ h:
   %q = getelementptr i8, ptr %p, i64 4
 ; 2 = MemoryDef(1)
   store i8 1, ptr %q, align 1
-; MemoryUse(2)
+; MemoryUse(1)
   %x = load i8, ptr %p, align 1
   br i1 %c, label %h, label %e
 
@@ -452,7 +452,7 @@ h:
   store i8 2, ptr %p, align 1
 ; 4 = MemoryDef(3)
   store i8 3, ptr %q, align 1
-; MemoryUse(4)
+; MemoryUse(3)
   %x = load i8, ptr %p, align 1
   br i1 %d, label %h, label %e
 

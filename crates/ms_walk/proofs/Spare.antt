@@ -1,7 +1,7 @@
 -- How much room a function has does not change what its instructions may touch.
-use Rattle.std.proofs.Common.{◌≡◌, inl, inr, ℕ, zero, suc, ℤ, List, refl, sym, ◌∙◌, subst}
+use Rattle.std.proofs.Common.{◌≡◌, ◌≢◌, ◌⊎◌, inl, inr, ℕ, zero, suc, ℤ, List, refl, sym, ◌∙◌, subst}
 use Rattle.std.specs.Prelude.{Contains}
-use Rattle.ms_paths.specs.Flow.{Event}
+use Rattle.ms_paths.specs.Flow.{Event, Of}
 use Rattle.ms_ir.specs.declared.names.LocalNo.{LocalNo}
 use Rattle.ms_ir.specs.declared.names.InstNo.{InstNo}
 use Rattle.ms_ir.specs.declared.inst.Val.{Val}
@@ -12,12 +12,12 @@ use Rattle.ms_alias.specs.declared.loc.Root.{Root}
 use Rattle.ms_alias.specs.declared.loc.Root.TheVariants.{Local, Global}
 use Rattle.ms_alias.specs.declared.loc.Loc.{Loc}
 use Rattle.ms_alias.specs.declared.loc.Loc.TheVariants.{Bytes, ReadBy}
-use Rattle.ms_alias.specs.Roots.{step_of, LeadsBack, IsEnd, IsRootAfter, HasRoot, IsTurning}
+use Rattle.ms_alias.specs.Roots.{step_of, LeadsBack, IsEnd, IsRootAfter, HasRoot, IsTurning, IsTurnedBy}
 use Rattle.ms_alias.specs.Bases.{Base, Alloca, Argument, Object, Outside, Hidden, leads_of, IsBrought, IsNamed, HasBase, HasValBase}
 use Rattle.ms_alias.specs.Captured.{IsCaptured}
 use Rattle.ms_alias.specs.Reaches.{Reach, Span, Called, IsSpan, IsRead, IsWritten, IsReachOf, IsKnown, IsReached, IsLocRead}
-use Rattle.ms_alias.specs.Meeting.{HaveOneRoot, Meet, MayWrite}
-use Rattle.ms_walk.specs.Clobber.{IsClobberAt}
+use Rattle.ms_alias.specs.Meeting.{HaveOneRoot, Meet, MayWrite, MeetInTurn, MayWriteInTurn}
+use Rattle.ms_walk.specs.Clobber.{IsLastWriter, IsLastWriterBefore, IsTurned, IsTurnedAt, IsLastInTurn, IsClobberAt}
 
 -- the function with another room
 abbrev pub with_spare : ℕ → FuncState → FuncState
@@ -114,12 +114,55 @@ may_write : (f : FuncState) (r i : ℕ) (loc : Loc) → MayWrite f i loc → May
 may_write f r i loc h =
     (h.0, h.1, h.2, h.3, h.4, h.5, written f r h.2.inst h.4 h.6, reach_of f r loc h.5 h.7, meet f r h.4 h.5 h.8)
 
-pub clobber_moved : (f : FuncState) (r b k : ℕ) (loc : Loc) (e : Event) → IsClobberAt f b k loc e → IsClobberAt (with_spare r f) b k loc e
-clobber_moved f r b k loc e h = record {
+turned_by : (f : FuncState) (r : ℕ) (p : Root) (q : ℕ) → IsTurnedBy f p q → IsTurnedBy (with_spare r f) p q
+turned_by f r (Local l) q h = h
+turned_by f r (Global g) q h = h
+
+meet_in_turn : (f : FuncState) (r : ℕ) (u v : Reach) → MeetInTurn f u v → MeetInTurn (with_spare r f) u v
+meet_in_turn f r u v (inl h) = inl h
+meet_in_turn f r u v (inr h) = inr (h.0, meet f r u v h.1)
+
+may_write_in_turn : (f : FuncState) (r i : ℕ) (loc : Loc) → MayWriteInTurn f i loc → MayWriteInTurn (with_spare r f) i loc
+may_write_in_turn f r i loc h =
+    (h.0, h.1, h.2, h.3, h.4, h.5, written f r h.2.inst h.4 h.6, reach_of f r loc h.5 h.7, meet_in_turn f r h.4 h.5 h.8)
+
+turned : (f : FuncState) (r : ℕ) (loc : Loc) (q : ℕ) → IsTurned f loc q → IsTurned (with_spare r f) loc q
+turned f r (Bytes root from len) q h = turned_by f r root q h
+turned f r (ReadBy j) q h = h
+
+turned_at : (f : FuncState) (r b k : ℕ) (loc : Loc) (q : ℕ) → IsTurnedAt f b k loc q → IsTurnedAt (with_spare r f) b k loc q
+turned_at f r b k loc q h = record {
+  turned = turned f r loc q h.turned;
+  only = λ p m. h.only p (turned (with_spare r f) f.spare loc p m);
+  passed = h.passed;
+}
+
+last_writer : (f : FuncState) (r b k : ℕ) (loc : Loc) (e : Event) → IsLastWriter f b k loc e → IsLastWriter (with_spare r f) b k loc e
+last_writer f r b k loc e h = record {
   writes = h.writes;
   writers = λ j. ((λ t. may_write f r j loc ((h.writers j).0 t)), (λ w. (h.writers j).1 (may_write (with_spare r f) f.spare j loc w)));
   answer = h.answer;
 }
+
+last_before : (f : FuncState) (r i : ℕ) (loc : Loc) (e : Event) → IsLastWriterBefore f i loc e → IsLastWriterBefore (with_spare r f) i loc e
+last_before f r i loc e h b k x at = last_writer f r b k loc e (h b k x at)
+
+last_in_turn : (f : FuncState) (r q b k : ℕ) (loc : Loc) (e : Event) → IsLastInTurn f q b k loc e → IsLastInTurn (with_spare r f) q b k loc e
+last_in_turn f r q b k loc e h = record {
+  writes = h.writes;
+  writers = λ j. ((λ t. may_write_in_turn f r j loc ((h.writers j).0 t)), (λ w. (h.writers j).1 (may_write_in_turn (with_spare r f) f.spare j loc w)));
+  answer = h.answer;
+}
+
+in_turn : (f : FuncState) (r q b k : ℕ) (loc : Loc) (e : Event)
+    → (IsLastInTurn f q b k loc e × (e ≢ Of q)) ⊎ (IsLastInTurn f q b k loc (Of q) × IsLastWriterBefore f q loc e)
+    → (IsLastInTurn (with_spare r f) q b k loc e × (e ≢ Of q)) ⊎ (IsLastInTurn (with_spare r f) q b k loc (Of q) × IsLastWriterBefore (with_spare r f) q loc e)
+in_turn f r q b k loc e (inl h) = inl (last_in_turn f r q b k loc e h.0, h.1)
+in_turn f r q b k loc e (inr h) = inr (last_in_turn f r q b k loc (Of q) h.0, last_before f r q loc e h.1)
+
+pub clobber_moved : (f : FuncState) (r b k : ℕ) (loc : Loc) (e : Event) → IsClobberAt f b k loc e → IsClobberAt (with_spare r f) b k loc e
+clobber_moved f r b k loc e (inl h) = inl ((λ q t. h.0 q (turned_at (with_spare r f) f.spare b k loc q t)), last_writer f r b k loc e h.1)
+clobber_moved f r b k loc e (inr h) = inr (h.0, turned_at f r b k loc h.0 h.1, in_turn f r h.0 b k loc e h.2)
 
 pub read_moved : (f : FuncState) (r : ℕ) (i : InstNo) (x : Inst) (loc : Loc) → IsLocRead f i x loc → IsLocRead (with_spare r f) i x loc
 read_moved f r i (inst.Load ty ptr tail) loc h = (h.0, h.1, h.2, h.3, has_root f r h.0 h.2 h.3 h.4, h.5)

@@ -1,2 +1,3 @@
 pub mod Clobber
 pub mod Pointed
+pub mod Turn

@@ -5,7 +5,8 @@ ghost use Rattle.ms_ir.specs.Func.{FuncState};
 ghost use Rattle.ms_ir.specs.Graph.{graph_of};
 ghost use Rattle.ms_ir.specs.Locals.{IsNumbered};
 ghost use Rattle.ms_alias.specs.declared.loc.Loc.{Loc};
-ghost use Rattle.ms_sound.specs.Bytes.{BeginsOnce, IsSound};
+ghost use Rattle.ms_ir.specs.SoundFunc.{IsSoundFunc};
+ghost use Rattle.ms_sound.specs.Bytes.{IsSound};
 ghost use Rattle.ms_walk.specs.Clobber.{IsClobberAt, IsClobber};
 
 /// A location has one clobber at most before a place of a reached block, and so before an instruction.
@@ -16,10 +17,11 @@ pub fn one_clobber()
     ms_paths::laws::one_answer();
 }
 
-/// A clobber holds on every run of a function whose allocas stand in the first block, to which no edge leads: from when it took place last up
-/// to the instruction no step writes a byte of the location.
+/// A clobber holds on every run of a sound function: from when it took place last up to the instruction no step writes a byte of the location.
 pub fn clobber_holds()
-    ensures { (f : FuncState) (i : ℕ) (loc : Loc) (e : Event) → IsNumbered f → BeginsOnce f → IsClobber f i loc e → IsSound f i loc e }
+    ensures { (f : FuncState) (i : ℕ) (loc : Loc) (e : Event) → IsNumbered f → IsSoundFunc f → IsClobber f i loc e → IsSound f i loc e }
 {
+    ms_sound::laws::sound_functions_begin_once();
     ms_sound::laws::clobbers_are_sound();
+    ms_sound::laws::turning_clobbers_are_sound();
 }
