@@ -12,7 +12,7 @@ use crate::graph::{
     NO_EFFECTS, P, alloca, cut, flow_of, form_of, function, load, put, store, take,
 };
 use crate::starting::{expect_near, start};
-use ms_alias::{Alias, Loc, Root, tables_kept};
+use ms_alias::{Alias, Loc, Root};
 use ms_flow::Flow;
 use ms_form::{Access, Form};
 use ms_ir::{
@@ -510,7 +510,7 @@ fn put_call(
     ensures tables { IsAliasOf f.new alias.new }
     ensures room { f.old.spare ≤ f.new.spare + 1 }
 {
-    tables_kept();
+    ms_alias::laws::tables_kept();
     assert!(rt; f.block_count() > 0);
     assert!(rt; f.made() < u32::MAX);
     let place = f.count(BlockNo(0));
@@ -549,7 +549,7 @@ fn take_noted(rt: &impl Abort, f: &mut Func, alias: &mut Alias, i: InstNo) -> bo
     ensures tables { IsAliasOf f.new alias.new }
     ensures room { f.old.spare ≤ f.new.spare }
 {
-    tables_kept();
+    ms_alias::laws::tables_kept();
     f.numbered();
     expect_idle_at(rt, f, i);
     let changed = alias.note_take(f, i);
@@ -708,7 +708,7 @@ fn cut_back(rt: &impl Abort, alloc: Global, f: &mut Func, alias: &mut Alias)
     requires { IsAliasOf f.old alias.old }
     ensures { IsAliasOf f.new alias.new }
 {
-    tables_kept();
+    ms_alias::laws::tables_kept();
     let mut steps = Steps::new(alloc).ok().expect(rt, "memory");
     cut(rt, f, BlockNo(1), 0, &mut steps);
     let flow = flow_of(rt, alloc, f);

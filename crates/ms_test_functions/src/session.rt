@@ -3,7 +3,7 @@ use crate::graph::{P, function, load, put, store};
 use crate::starting::start;
 use ms_form::Access;
 use ms_ir::{BlockNo, InstNo, Names, Val};
-use ms_session::{Found, Session, one_annotated};
+use ms_session::{Found, Session};
 use std::alloc::Global;
 use std::process::Abort;
 
@@ -51,7 +51,7 @@ fn check(rt: &impl Abort, alloc: Global, session: &mut Session) {
 #[test]
 fn a_loop_has_a_phi(rt: HostRuntime) {
     let alloc = rt.alloc();
-    one_annotated();
+    ms_session::laws::one_annotated();
     let mut f = function(&rt, alloc, &[&[1], &[1, 2], &[]]);
     put(&rt, &mut f, 0, store(alloc, Val::Local(P), 0));
     put(&rt, &mut f, 1, load(alloc, Val::Local(P)));
