@@ -64,6 +64,17 @@ fn check_cuts(rt: &impl Abort, flow: &mut Flow, pairs: &[(u32, u32)], want: bool
     }
 }
 
+// The same for all blocks at once.
+fn check_behind(rt: &impl Abort, alloc: Global, flow: &Flow, pairs: &[(u32, u32)], want: bool) {
+    for k in 0..pairs.len() {
+        let (h, b) = pairs[k];
+        assert!(rt; h < flow.block_count());
+        let behind = flow.behind(alloc, BlockNo(h)).ok().expect(rt, "memory");
+        assert!(rt; (b as usize) < behind.len());
+        assert_eq!(rt; behind[b as usize], want, "{h} and {b}");
+    }
+}
+
 fn check(rt: &impl Abort, alloc: Global, shape: &[&[u32]], want: &Want) {
     let func = function(rt, alloc, shape);
     let mut flow = flow_of(rt, alloc, &func);
@@ -101,6 +112,8 @@ fn check(rt: &impl Abort, alloc: Global, shape: &[&[u32]], want: &Want) {
     }
     check_cuts(rt, &mut flow, want.cuts, true);
     check_cuts(rt, &mut flow, want.passes, false);
+    check_behind(rt, alloc, &flow, want.cuts, true);
+    check_behind(rt, alloc, &flow, want.passes, false);
 }
 
 #[test]

@@ -16,8 +16,8 @@ use ms_alias::{Alias, Loc, Root};
 use ms_flow::Flow;
 use ms_form::{Access, Form};
 use ms_ir::{
-    Arg, BlockNo, Effects, Entry, Func, FuncNo, GlobalNo, Inst, InstNo, Items, LocalNo, Name,
-    Steps, Ty, Val,
+    Arg, BlockNo, Effects, Entry, Func, FuncNo, GlobalNo, IndexTerm, Inst, InstNo, Items, LocalNo,
+    Name, Steps, Ty, Val,
 };
 use ms_session::Session;
 use ms_walk::walk;
@@ -45,6 +45,25 @@ fn gep(alloc: Global, base: LocalNo, offset: i64) -> Inst {
     Inst::Gep {
         base: local(base),
         offset,
+        head: Items::new(alloc),
+        index: Items::new(alloc),
+        tail: Items::new(alloc),
+    }
+}
+
+// A getelementptr by an index, which counts four bytes.
+fn step(rt: &impl Abort, alloc: Global, base: LocalNo, index: Val) -> Inst {
+    let term = IndexTerm {
+        val: index,
+        ty: Ty::I64,
+        scale: 4,
+    };
+    let mut terms = Items::new(alloc);
+    assert!(rt; terms.push(term).is_ok());
+    Inst::Step {
+        base: local(base),
+        offset: 0,
+        terms,
         head: Items::new(alloc),
         index: Items::new(alloc),
         tail: Items::new(alloc),
@@ -681,6 +700,30 @@ fn turning(rt: &impl Abort, f: &Func, alias: &Alias)
     expect_meets(rt, f, alias, &rows);
 }
 
+// As long as C is not made anew, its offsets tell.
+fn in_turn(rt: &impl Abort, f: &Func, alias: &Alias)
+    requires { IsAliasOf f.now alias.now }
+{
+    assert!(rt; alias.turning(f, Root::Local(C)) == Some(InstNo(2)));
+    assert!(rt; alias.turning(f, Root::Local(A)).is_none());
+    assert!(rt; alias.turning(f, Root::Global(GLOBAL)).is_none());
+    assert!(rt; alias.turning_of(f, &bytes(C, 4, 4)) == Some(InstNo(2)));
+    assert!(rt; alias.turning_of(f, &bytes(A, 4, 4)).is_none());
+    assert!(rt; alias.turning_of(f, &Loc::ReadBy(InstNo(4))).is_none());
+    let rows = [
+        (3, bytes(C, 0, 4), true),
+        (3, bytes(C, 3, 1), true),
+        (3, bytes(C, 4, 4), false),
+        (3, bytes(A, 4, 4), true),
+        (4, bytes(B, 0, 4), true),
+        (2, bytes(C, 0, 4), false),
+    ];
+    for k in 0..rows.len() {
+        let (i, loc, writes) = rows[k];
+        assert_eq!(rt; alias.may_write_in_turn(f, InstNo(i), &loc), writes, "{k}");
+    }
+}
+
 // Without the loop C is A alone.
 fn still(rt: &impl Abort, f: &Func, alias: &Alias)
     requires { IsAliasOf f.now alias.now }
@@ -722,8 +765,36 @@ fn a_loop_is_cut(rt: HostRuntime) {
     let flow = flow_of(&rt, alloc, &f);
     let mut alias = pointers(&rt, alloc, &f, &flow);
     turning(&rt, &f, &alias);
+    in_turn(&rt, &f, &alias);
     cut_back(&rt, alloc, &mut f, &mut alias);
     still(&rt, &f, &alias);
+}
+
+#[test]
+fn an_index_makes_a_root(rt: HostRuntime) {
+    let alloc = rt.alloc();
+    let mut f = function(&rt, alloc, &[&[]]);
+    put(&rt, &mut f, 0, alloca(alloc, 8));
+    put(&rt, &mut f, 0, alloca(alloc, 4));
+    put(&rt, &mut f, 0, step(&rt, alloc, A, Val::Num(Ty::I64, 1)));
+    put(&rt, &mut f, 0, gep(alloc, C, 4));
+    put(&rt, &mut f, 0, store(alloc, local(D), 7));
+    let flow = flow_of(&rt, alloc, &f);
+    let alias = pointers(&rt, alloc, &f, &flow);
+    expect_roots(&rt, &f, &alias, &[(Root::Local(C), true, false)]);
+    expect_surely(
+        &rt,
+        &f,
+        &alias,
+        &[(4, Root::Local(C), 4, true), (4, Root::Local(A), 4, false)],
+    );
+    let rows = [
+        (4, bytes(C, 4, 4), true, false),
+        (4, bytes(C, 0, 4), false, false),
+        (4, bytes(A, 0, 4), true, false),
+        (4, bytes(B, 0, 4), false, false),
+    ];
+    expect_meets(&rt, &f, &alias, &rows);
 }
 
 // Stores 2 to A and 3 to B, and a load 4 of A; then a loop with a store 5 to B and loads 6 of A and 7 of B; then a load 8 of A.
