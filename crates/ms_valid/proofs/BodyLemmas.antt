@@ -6,7 +6,7 @@ use Rattle.std.proofs.lemmas.Bool.{both_ways, not-true, not_from_false, false_fr
 use Rattle.std.proofs.lemmas.Option.{none-some, same_Some}
 use Rattle.ms_paths.specs.Flow.{Block as Run, IsReducible}
 use Rattle.ms_ir.specs.declared.inst.Inst.{Inst}
-use Rattle.ms_ir.specs.declared.inst.Inst.TheVariants.{Alloca, Gep, Load, Store, Copy, Call, Bin, Cmp, Select, Cast, Phi}
+use Rattle.ms_ir.specs.declared.inst.Inst.TheVariants.{Alloca, Gep, Step, Load, Store, Copy, Call, Bin, Cmp, Select, Cast, Phi}
 use Rattle.ms_ir.specs.Func.{Placed, Block, FuncState, IsNowhere, NotNumbered, insts_at}
 use Rattle.ms_ir.specs.Graph.{graph_of}
 use Rattle.ms_ir.specs.Module.{ModuleState, body_in}
@@ -25,6 +25,7 @@ edges_fit : (blocks : List Block) (lists : List (List ℕ)) (b : ℕ) (list : Li
     → HasBadEntriesFor list inst ↔ HasBadEntries blocks b inst
 edges_fit blocks lists b list (Alloca _ _ _) all lt is = (λ h. h, λ h. h)
 edges_fit blocks lists b list (Gep _ _ _ _ _) all lt is = (λ h. h, λ h. h)
+edges_fit blocks lists b list (Step _ _ _ _ _ _) all lt is = (λ h. h, λ h. h)
 edges_fit blocks lists b list (Load _ _ _) all lt is = (λ h. h, λ h. h)
 edges_fit blocks lists b list (Store _ _ _ _) all lt is = (λ h. h, λ h. h)
 edges_fit blocks lists b list (Copy _ _ _ _ _) all lt is = (λ h. h, λ h. h)

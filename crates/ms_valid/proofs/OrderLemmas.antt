@@ -8,7 +8,7 @@ use Rattle.ms_paths.specs.Flow.{block_at, IsPath, IsMet}
 use Rattle.ms_ir.specs.declared.names.LocalNo.{LocalNo}
 use Rattle.ms_ir.specs.declared.inst.Val.TheVariants.{Local}
 use Rattle.ms_ir.specs.declared.inst.Inst.{Inst}
-use Rattle.ms_ir.specs.declared.inst.Inst.TheVariants.{Alloca, Gep, Load, Store, Copy, Call, Bin, Cmp, Select, Cast, Phi}
+use Rattle.ms_ir.specs.declared.inst.Inst.TheVariants.{Alloca, Gep, Step, Load, Store, Copy, Call, Bin, Cmp, Select, Cast, Phi}
 use Rattle.ms_ir.specs.Func.{Placed, Block, FuncState, insts_at}
 use Rattle.ms_ir.specs.Graph.{graph_of, numbers}
 use Rattle.ms_ir.specs.Locals.{IsGiver, IsNumbered}
@@ -128,6 +128,7 @@ before_told law f at u l b k x t num is ub up gives told = (
 pub as_many_uses : (blocks : List Block) (b k : ℕ) (inst : Inst) → length (uses_at blocks b k inst) ≡ length (operands_of inst)
 as_many_uses blocks b k (Alloca _ _ _) = refl
 as_many_uses blocks b k (Gep _ _ _ _ _) = refl
+as_many_uses blocks b k (Step base offset terms h i t) = length-map (operands_of (Step base offset terms h i t)) (used_at b k)
 as_many_uses blocks b k (Load _ _ _) = refl
 as_many_uses blocks b k (Store _ _ _ _) = refl
 as_many_uses blocks b k (Copy _ _ _ _ _) = refl

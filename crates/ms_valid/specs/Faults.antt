@@ -6,7 +6,7 @@ use Rattle.ms_ir.specs.declared.names.Ty.{Ty}
 use Rattle.ms_ir.specs.declared.names.Mark.{Mark}
 use Rattle.ms_ir.specs.declared.inst.Arg.{Arg}
 use Rattle.ms_ir.specs.declared.inst.Inst.{Inst}
-use Rattle.ms_ir.specs.declared.inst.Inst.TheVariants.{Call}
+use Rattle.ms_ir.specs.declared.inst.Inst.TheVariants.{Alloca, Gep, Step, Load, Store, Copy, Call, Bin, Cmp, Select, Cast, Phi}
 use Rattle.ms_ir.specs.declared.inst.Term.{Term}
 use Rattle.ms_ir.specs.declared.inst.Term.TheVariants.{Ret}
 use Rattle.ms_ir.specs.declared.module.Sig.{Sig}
@@ -63,7 +63,17 @@ ArgsFit sig args =
 abbrev pub CallsOtherwise : ModuleState → Inst → Type 0
 CallsOtherwise m (Call callee ret args effects head tail) =
     (sig : Sig) × (slice_get m.sigs callee.0 ≡ Some sig) × ((ret ≢ sig.ret) ⊎ (ArgsFit sig args → ⊥))
-CallsOtherwise m _ = ⊥
+CallsOtherwise m (Alloca size head tail) = ⊥
+CallsOtherwise m (Gep base offset head index tail) = ⊥
+CallsOtherwise m (Step base offset terms head index tail) = ⊥
+CallsOtherwise m (Load ty ptr tail) = ⊥
+CallsOtherwise m (Store ty val ptr tail) = ⊥
+CallsOtherwise m (Copy to from len head tail) = ⊥
+CallsOtherwise m (Bin op flags ty a b tail) = ⊥
+CallsOtherwise m (Cmp pred flags ty a b tail) = ⊥
+CallsOtherwise m (Select cond ty a b tail) = ⊥
+CallsOtherwise m (Cast op flags from a to tail) = ⊥
+CallsOtherwise m (Phi ty entries tail) = ⊥
 
 abbrev pub given_type : {V : Type 0} → Option (Ty × V) → Option Ty
 given_type None = None

@@ -1,7 +1,7 @@
 -- Tables of a function's instructions and blocks.
 use Rattle.std.specs.Prelude.{◌≡◌, ◌≢◌, ◌⊎◌, ◌<◌, ℕ, List, [], ◌∷◌, ◌++◌, Some, length, map, slice_get, slice_index_or, slice_set}
 use Rattle.ms_ir.specs.declared.inst.Inst.{Inst}
-use Rattle.ms_ir.specs.declared.inst.Inst.TheVariants.{Phi}
+use Rattle.ms_ir.specs.declared.inst.Inst.TheVariants.{Alloca, Gep, Step, Load, Store, Copy, Call, Bin, Cmp, Select, Cast, Phi}
 use Rattle.ms_ir.specs.Func.{Placed, Block, insts_at}
 use Rattle.ms_ir.specs.Sound.{times_in, edges_between, from_of, HasTwoValues}
 use Rattle.ms_valid.specs.declared.spots.Spot.{Spot}
@@ -30,4 +30,14 @@ with_sources lists (t ∷ ts) a = with_sources (with_source lists t a) ts a
 -- the entries of a phi are not the edges from these blocks
 abbrev pub HasBadEntriesFor : List ℕ → Inst → Type 0
 HasBadEntriesFor sources (Phi ty entries tail) = ((a : ℕ) × (times_in a (map from_of entries) ≢ times_in a sources)) ⊎ HasTwoValues entries
-HasBadEntriesFor sources _ = ⊥
+HasBadEntriesFor sources (Alloca size head tail) = ⊥
+HasBadEntriesFor sources (Gep base offset head index tail) = ⊥
+HasBadEntriesFor sources (Step base offset terms head index tail) = ⊥
+HasBadEntriesFor sources (Load ty ptr tail) = ⊥
+HasBadEntriesFor sources (Store ty val ptr tail) = ⊥
+HasBadEntriesFor sources (Copy to from len head tail) = ⊥
+HasBadEntriesFor sources (Call callee ret args effects head tail) = ⊥
+HasBadEntriesFor sources (Bin op flags ty a b tail) = ⊥
+HasBadEntriesFor sources (Cmp pred flags ty a b tail) = ⊥
+HasBadEntriesFor sources (Select cond ty a b tail) = ⊥
+HasBadEntriesFor sources (Cast op flags from a to tail) = ⊥

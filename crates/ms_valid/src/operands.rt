@@ -1,9 +1,10 @@
 // The operands of instructions and terminators, by their place on the line.
 ghost use Rattle.std.specs.Prelude.{◌≡◌, ℕ, suc, None, [], ◌∷◌, length, map, option_map, slice_get};
-ghost use Rattle.ms_ir.specs.Uses.{operands_of, term_operands, arg_operand, entry_operand};
+ghost use Rattle.ms_ir.specs.declared.names.Ty.TheVariants.{Ptr};
+ghost use Rattle.ms_ir.specs.Uses.{operands_of, term_operands, of_type, arg_operand, entry_operand, index_operand};
 ghost use Rattle.ms_valid.specs.Told.{as_operand};
 
-use ms_ir::{Arg, Args, Entries, Inst, Term, Ty, Val};
+use ms_ir::{Arg, Args, Entries, Inst, Term, Terms, Ty, Val};
 
 /// A value with the type that is written for it.
 #[derive(Clone, Copy)]
@@ -55,6 +56,26 @@ fn both(first: &Arg, second: &Arg, k: usize) -> Option<Operand>
     pick(&[of_arg(first), of_arg(second)], k)
 }
 
+// The term at a place.
+fn term_at(terms: &Terms, k: usize) -> Option<Operand>
+    ensures { option_map as_operand result ≡ slice_get (map index_operand terms.now) k }
+{
+    match terms.get(k) {
+        Some(term) => Some(of(term.ty, term.val)),
+        None => None,
+    }
+}
+
+// The base of a getelementptr, or one of its terms behind it.
+fn step_at(base: Val, terms: &Terms, k: usize) -> Option<Operand>
+    ensures { option_map as_operand result ≡ slice_get (of_type Ptr base ∷ map index_operand terms.now) k }
+{
+    if k == 0 {
+        return Some(of(Ty::Ptr, base));
+    }
+    term_at(terms, k - 1)
+}
+
 // The value of the entry at a place of a phi of this type.
 fn entry_at(ty: Ty, entries: &Entries, k: usize) -> Option<Operand>
     ensures { option_map as_operand result ≡ slice_get (map (entry_operand ty) entries.now) k }
@@ -72,6 +93,7 @@ pub fn operand_at(inst: &Inst, k: usize) -> Option<Operand>
     match inst {
         Inst::Alloca { .. } => None,
         Inst::Gep { base, .. } => pick(&[of(Ty::Ptr, *base)], k),
+        Inst::Step { base, terms, .. } => step_at(*base, terms, k),
         Inst::Load { ptr, .. } => pick(&[of(Ty::Ptr, *ptr)], k),
         Inst::Store { ty, val, ptr, .. } => pick(&[of(*ty, *val), of(Ty::Ptr, *ptr)], k),
         Inst::Copy { to, from, .. } => both(to, from, k),
@@ -94,6 +116,7 @@ pub fn operand_count(inst: &Inst) -> usize
     match inst {
         Inst::Alloca { .. } => 0,
         Inst::Gep { .. } | Inst::Load { .. } | Inst::Cast { .. } => 1,
+        Inst::Step { terms, .. } => 1 + terms.as_slice().len(),
         Inst::Store { .. } | Inst::Copy { .. } | Inst::Bin { .. } | Inst::Cmp { .. } => 2,
         Inst::Select { .. } => 3,
         Inst::Call { args, .. } => args.len(),
