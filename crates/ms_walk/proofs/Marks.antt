@@ -1,16 +1,12 @@
 -- Marks of the instructions that are behind one of them.
-use Rattle.std.proofs.Common.{◌≡◌, ◌≢◌, ◌<◌, ◌≤◌, ◌+◌, ◌⊎◌, ◌↔◌, inl, inr, ℕ, zero, suc, Bool, true, false, List, length, set, get_or, Some, if◌then◌else◌, refl, sym, ap, ◌∙◌, subst, arith, ⊎_elim}
+use Rattle.std.proofs.Common.{◌≡◌, ◌<◌, ◌+◌, ◌↔◌, ℕ, Bool, true, false, List, length, set, Some, refl, sym, ap, ◌∙◌, subst, arith, ⊎_elim}
 use Rattle.std.specs.Prelude.{◌==◌, IsTrue, slice_get, nat_lt}
-use Rattle.std.specs.Bool.{nat_eq}
 use Rattle.std.proofs.lemmas.Bool.{cases_Bool, cases_eq, both_ways, eq-eqb, eqb-true, ltb-true, lt-ltb}
-use Rattle.std.proofs.lemmas.Bool.Decides.{nat_tests, eqb_tells}
-use Rattle.std.proofs.lemmas.List.{get_or-set_same, get_or-set_other, length-set}
-use Rattle.std.proofs.lemmas.Option.{slice_get_within}
+use Rattle.std.proofs.lemmas.List.{get_or-set_other, get_or-set_same, length-set}
 use Rattle.ms_paths.specs.Flow.{Block as Run, IsReached, IsOnEveryPath, LiesOnEvery, StandsAt, StandsInOnePlace, IsClosed}
 use Rattle.ms_ir.specs.Func.{Placed, Block, FuncState, IsAt, insts_at}
 use Rattle.ms_ir.specs.Graph.{graph_of}
 use Rattle.ms_build.proofs.Define.{OnePlaced}
-use Rattle.ms_ir.proofs.Along.{block_within}
 use Rattle.ms_climb.proofs.Events.{reached_below}
 use Rattle.ms_flow.proofs.Tables.{length-graph_of, length-edges_of}
 use Rattle.ms_flow.specs.Table.{edges_of}
@@ -37,18 +33,6 @@ mark_more blocks starts home place b n old now i x t one lt at is h = record {
       let both : Some y ≡ Some x = sym there ∙ ap (slice_get (insts_at blocks b)) e ∙ at.found in
       let same : y ≡ x = cc in
       ap (λ (z : Placed). z.number) same ∙ at.numbered
-
--- one more block
-pub block_more : (blocks : List Block) (starts : List Bool) (home place b n : ℕ) (old new : List Bool) → n ≡ length (insts_at blocks b)
-    → AreMarked blocks starts home place b n old new → AreMarkedTo blocks starts home place b old → AreMarkedTo blocks starts home place (b + 1) new
-block_more blocks starts home place b n old new all h to = record {
-  each = λ c k x at below. ⊎_elim
-      (λ (e : c ≡ b).
-      let here : slice_get (insts_at blocks b) k ≡ Some x = subst (λ (m : ℕ). slice_get (insts_at blocks m) k ≡ Some x) e at in
-      h.here k x here (let l = slice_get_within (insts_at blocks b) k x here in omega (arith, l, all)) ∙ ap (λ (m : ℕ). is_past starts home place m k) (sym e))
-      (λ (ne : c ≡ b → ⊥). h.others c k x at ne ∙ to.each c k x at (omega (arith, below, ne)))
-      (cases_eq c b);
-}
 
 past_home : (starts : List Bool) (home place b k : ℕ) → b ≡ home → is_past starts home place b k ≡ nat_lt place k
 past_home starts home place b k e = let t : (b == home) ≡ true = eq-eqb b home e in rw t refl
@@ -88,11 +72,12 @@ start_behind f one own other q home place y at starts is b below r =
     let stands = stands_at f.blocks q home place y at in
     ⊎_elim
     (λ (e : b ≡ home).
-    let off : is_marked starts b ≡ false = ap (is_marked starts) e ∙ is.own in
-    ((λ t. absurd (both_ways (is_marked starts b) off t)),
-    (λ (h : LiesOnEvery g q b 0).
-    let lt = (own g q home place 0 (in_one_place f.blocks one) stands (subst (IsReached g) e r)).0 (subst (λ (n : ℕ). LiesOnEvery g q n 0) e h) in
-    absurd (omega (arith, lt)))))
+    let off : is_marked starts b ≡ false = ap (is_marked starts) e ∙ is.own in (
+      (λ t. absurd (both_ways (is_marked starts b) off t)),
+      (λ (h : LiesOnEvery g q b 0).
+          let lt = (own g q home place 0 (in_one_place f.blocks one) stands (subst (IsReached g) e r)).0 (subst (λ (n : ℕ). LiesOnEvery g q n 0) e h) in
+          absurd (omega (arith, lt))),
+    ))
     (λ (ne : b ≡ home → ⊥).
     let lies = other g q home place b 0 (in_one_place f.blocks one) stands ne in
     ((λ t. lies.1 ((is.each b below ne).0 t)), (λ h. (is.each b below ne).1 (lies.0 h))))
@@ -106,9 +91,10 @@ inst_behind f one own other q home place y at starts is b k below r =
     ⊎_elim
     (λ (e : b ≡ home).
     let lies = own g q home place k (in_one_place f.blocks one) stands (subst (IsReached g) e r) in
-    let past = past_home starts home place b k e in
-    ((λ t. subst (λ (n : ℕ). LiesOnEvery g q n k) (sym e) (lies.1 (ltb-true place k (sym past ∙ t)))),
-    (λ (h : LiesOnEvery g q b k). past ∙ lt-ltb place k (lies.0 (subst (λ (n : ℕ). LiesOnEvery g q n k) e h)))))
+    let past = past_home starts home place b k e in (
+      (λ t. subst (λ (n : ℕ). LiesOnEvery g q n k) (sym e) (lies.1 (ltb-true place k (sym past ∙ t)))),
+      (λ (h : LiesOnEvery g q b k). past ∙ lt-ltb place k (lies.0 (subst (λ (n : ℕ). LiesOnEvery g q n k) e h))),
+    ))
     (λ (ne : b ≡ home → ⊥).
     let lies = other g q home place b k (in_one_place f.blocks one) stands ne in
     let past = past_other starts home place b k ne in

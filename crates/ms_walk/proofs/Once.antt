@@ -8,7 +8,7 @@ use Rattle.ms_build.proofs.Define.{OnePlaced}
 use Rattle.ms_alias.specs.declared.loc.Loc.{Loc}
 use Rattle.ms_alias.specs.Meeting.{MayWrite, MayWriteInTurn}
 use Rattle.ms_alias.proofs.Asked.{alike}
-use Rattle.ms_walk.specs.Clobber.{IsLastWriter, IsLastWriterBefore, IsLastInTurn, IsTurnedAt, IsClobberInTurn, IsClobberAt, IsClobber}
+use Rattle.ms_walk.specs.Clobber.{IsLastWriter, IsLastWriterBefore, IsLastInTurn, IsClobberAt, IsClobber}
 use Rattle.ms_walk.proofs.Passed.{passed_stands}
 
 abbrev pub OneAnswer : Type 0

@@ -1,7 +1,7 @@
 -- Instructions that lie on every path to a place.
-use Rattle.std.proofs.Common.{◌≡◌, ◌<◌, ◌∷◌, ℕ, zero, suc, List, [], take, Some, refl, sym, ◌∙◌, ap, subst, arith, ⊎_elim}
+use Rattle.std.proofs.Common.{◌≡◌, ◌<◌, ◌∷◌, ℕ, zero, suc, List, [], take, Some, sym, ◌∙◌, ap, subst, arith, ⊎_elim}
 use Rattle.std.specs.Prelude.{Contains, slice_get}
-use Rattle.ms_paths.specs.Flow.{Block as Run, block_at, IsPath, IsReached, IsMet, LiesOnEvery, StandsAt, StandsInOnePlace}
+use Rattle.ms_paths.specs.Flow.{Block as Run, block_at, IsPath, IsReached, LiesOnEvery, StandsAt, StandsInOnePlace}
 use Rattle.ms_ir.specs.Func.{Placed, Block, IsAt, insts_at}
 use Rattle.ms_ir.specs.Graph.{numbers, graph_of}
 use Rattle.ms_ir.proofs.Along.{block_within}

@@ -1,5 +1,5 @@
 -- The clobber of a location whose root is made anew at each turn of a loop.
-use Rattle.std.proofs.Common.{◌≡◌, ◌≢◌, ◌↔◌, inl, inr, refl, ℕ, Bool, true, false, List, if◌then◌else◌, sym, ◌∙◌, ap, subst}
+use Rattle.std.proofs.Common.{◌≡◌, ◌≢◌, ◌↔◌, inl, inr, refl, ℕ, Bool, true, false, List, if◌then◌else◌, sym, ◌∙◌, subst}
 use Rattle.std.specs.Prelude.{IsTrue}
 use Rattle.std.proofs.lemmas.Bool.{both_ways}
 use Rattle.ms_paths.specs.Flow.{Block as Run, Event, Of, IsReached, IsAnswer, IsClosed, LiesOnEvery, StandsAt, StandsInOnePlace, and_one}
@@ -30,8 +30,8 @@ pub not_passed : (f : FuncState) (q i : ℕ) (loc : Loc) (e : Event) (insts star
 not_passed f q i loc e insts starts r behind only off last =
     clobber_at f i loc e r (inl (
       (λ p t.
-      let passed : LiesOnEvery (graph_of f.blocks) q r.block r.place = subst (λ (n : ℕ). LiesOnEvery (graph_of f.blocks) n r.block r.place) (only p t.turned) t.passed in
-      both_ways (is_marked insts i) off ((behind.insts_are i r.block r.place r.inst r.reached r.at).1 passed)),
+          let passed : LiesOnEvery (graph_of f.blocks) q r.block r.place = subst (λ (n : ℕ). LiesOnEvery (graph_of f.blocks) n r.block r.place) (only p t.turned) t.passed in
+          both_ways (is_marked insts i) off ((behind.insts_are i r.block r.place r.inst r.reached r.at).1 passed)),
       last r.block r.place r.inst r.at,
     ))
 

@@ -12,7 +12,7 @@ use Rattle.ms_build.proofs.Events.{def_told}
 use Rattle.ms_alias.specs.declared.loc.Loc.{Loc}
 use Rattle.ms_alias.specs.Bases.{Base, HasValBase, Hidden}
 use Rattle.ms_alias.specs.Reaches.{Reach, Called, IsWritten, IsReached, IsKnown}
-use Rattle.ms_alias.specs.Meeting.{Meet, HaveOneRoot, HasLength, ShareByte, ShareBase, MayWrite, AreOneRoot, MeetInTurn, MayWriteInTurn}
+use Rattle.ms_alias.specs.Meeting.{Meet, HaveOneRoot, HasLength, ShareByte, ShareBase, MayWrite, MeetInTurn, MayWriteInTurn}
 
 -- a call that writes nothing reaches nothing
 no_reach : (f : FuncState) (b : Base) → IsReached f (Called [] false false) b → ⊥

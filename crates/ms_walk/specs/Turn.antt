@@ -1,5 +1,5 @@
 -- What lies behind an instruction on every path, and which instructions end a search within its turn.
-use Rattle.std.specs.Prelude.{◌≡◌, ◌↔◌, ◌<◌, ◌==◌, ℕ, Bool, true, false, nat_lt, if◌then◌else◌, List, length, Some, slice_get, slice_index_or, IsTrue}
+use Rattle.std.specs.Prelude.{◌≡◌, ◌↔◌, ◌<◌, ◌≤◌, ◌==◌, ℕ, Bool, false, nat_lt, if◌then◌else◌, List, length, Some, slice_get, slice_index_or, IsTrue}
 use Rattle.ms_paths.specs.Flow.{IsReached, LiesOnEvery}
 use Rattle.ms_ir.specs.Func.{Placed, Block, FuncState, IsAt, insts_at}
 use Rattle.ms_ir.specs.Graph.{graph_of, defs_of}
@@ -25,9 +25,10 @@ pub record AreMarked (blocks : List Block) (starts : List Bool) (home place b n 
   pub here : (k : ℕ) (x : Placed) → slice_get (insts_at blocks b) k ≡ Some x → k < n → is_marked new x.number ≡ is_past starts home place b k
   pub others : (c k : ℕ) (x : Placed) → slice_get (insts_at blocks c) k ≡ Some x → (c ≡ b → ⊥) → is_marked new x.number ≡ is_marked old x.number
 
--- so those of the first blocks
+-- so those of the first blocks, and no others
 pub record AreMarkedTo (blocks : List Block) (starts : List Bool) (home place n : ℕ) (marks : List Bool) : Type 0 where
   pub each : (b k : ℕ) (x : Placed) → slice_get (insts_at blocks b) k ≡ Some x → b < n → is_marked marks x.number ≡ is_past starts home place b k
+  pub rest : (b k : ℕ) (x : Placed) → slice_get (insts_at blocks b) k ≡ Some x → n ≤ b → is_marked marks x.number ≡ false
 
 -- behind q what may write the location in q's turn, elsewhere every Def
 unfoldable pub ends_turn : FuncState → AliasState → Loc → List Bool → ℕ → Bool

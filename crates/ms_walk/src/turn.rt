@@ -1,5 +1,5 @@
 // What lies behind an instruction on every path.
-ghost use Rattle.std.specs.Prelude.{◌≡◌, ◌<◌, length, vec_len, IfOk, IsTrue};
+ghost use Rattle.std.specs.Prelude.{◌≡◌, ℕ, false, ◌<◌, length, vec_len, IfOk, IsTrue};
 ghost use Rattle.ms_paths.specs.Flow.{IsClosed};
 ghost use Rattle.ms_ir.specs.Func.{IsSomewhere, insts_at};
 ghost use Rattle.ms_ir.specs.Graph.{graph_of};
@@ -38,8 +38,22 @@ fn is_past(starts: &[bool], home: BlockNo, place: u32, b: BlockNo, k: u32) -> bo
     }
 }
 
+// Whether an instruction of a block may be behind.
+fn has_past(starts: &[bool], home: BlockNo, b: BlockNo) -> bool
+    ensures { result ≡ false → (place k : ℕ) → is_past starts.now home.0 place b.0 k ≡ false }
+{
+    b.0 == home.0 || is_marked(starts, b.0 as usize)
+}
+
 // Marks the instructions of a block that are behind a place.
-fn mark_block(func: &Func, starts: &[bool], home: BlockNo, place: u32, b: BlockNo, marks: &mut Vec<bool>)
+fn mark_block(
+    func: &Func,
+    starts: &[bool],
+    home: BlockNo,
+    place: u32,
+    b: BlockNo,
+    marks: &mut Vec<bool>,
+)
     requires block { b.0 < length func.now.blocks }
     requires made { vec_len marks.old ≡ func.now.made }
     ensures { AreMarked func.now.blocks starts.now home.0 place b.0 (length (insts_at func.now.blocks b.0)) marks.old.items marks.new.items }
@@ -57,12 +71,20 @@ fn mark_block(func: &Func, starts: &[bool], home: BlockNo, place: u32, b: BlockN
 }
 
 // The marks of all instructions.
-fn marks_past(alloc: Global, func: &Func, starts: &[bool], home: BlockNo, place: u32) -> Result<Vec<bool>, NoMemory>
+fn marks_past(
+    alloc: Global,
+    func: &Func,
+    starts: &[bool],
+    home: BlockNo,
+    place: u32,
+) -> Result<Vec<bool>, NoMemory>
     ensures { IfOk result (λ marks. AreMarkedTo func.now.blocks starts.now home.0 place (length func.now.blocks) marks.items) }
 {
     let mut marks = vec![in alloc; false; func.made() as usize]?;
     for b in 0..func.block_count() {
-        mark_block(func, starts, home, place, BlockNo(b), &mut marks);
+        if has_past(starts, home, BlockNo(b)) {
+            mark_block(func, starts, home, place, BlockNo(b), &mut marks);
+        }
     }
     Ok(marks)
 }
@@ -100,13 +122,7 @@ impl Turn {
         ensures { event_of result ≡ beyond (is_marked self.now.insts.items) (is_marked self.now.starts.items) q.0 (event_of found) }
     {
         match found {
-            Access::Of(i) => {
-                if self.has(i) {
-                    found
-                } else {
-                    Access::Of(q)
-                }
-            }
+            Access::Of(i) => { if self.has(i) { found } else { Access::Of(q) } }
             Access::Phi(b) => {
                 if is_marked(self.starts.as_slice(), b.0 as usize) {
                     found

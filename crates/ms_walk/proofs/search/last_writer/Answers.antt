@@ -17,4 +17,3 @@ pub last_before-requires-clause-defs : goal.last_before-requires-clause-defs
 last_before-requires-clause-defs c =
     let f = c.args.of.now.func.now in
     λ j t. writer_is_def f c.numbered.ensures.one_place j c.args.loc.now ((c.tests_told.ensures.writes f c.args.of.now.alias.now c.requires.pointed.alias c.args.loc.now j).0 t)
-
