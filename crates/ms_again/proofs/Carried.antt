@@ -7,7 +7,7 @@ use Rattle.ms_ir.specs.declared.names.Param.{Param}
 use Rattle.ms_ir.specs.declared.names.LocalNo.{LocalNo}
 use Rattle.ms_ir.specs.declared.inst.Entry.{Entry}
 use Rattle.ms_ir.specs.declared.inst.Inst.{Inst}
-use Rattle.ms_ir.specs.declared.inst.Inst.TheVariants.{Alloca, Gep, Load, Store, Copy, Call, Bin, Cmp, Select, Cast, Phi}
+use Rattle.ms_ir.specs.declared.inst.Inst.TheVariants.{Alloca, Gep, Step, Load, Store, Copy, Call, Bin, Cmp, Select, Cast, Phi}
 use Rattle.ms_ir.specs.declared.inst.Term.{Term}
 use Rattle.ms_ir.specs.Inst.{result_type}
 use Rattle.ms_ir.specs.Func.{Placed, Block, FuncState, insts_at, no_block}
@@ -116,6 +116,7 @@ pub entries_alike : (f g : FuncState) → AreAlike f g → (b : ℕ) (i : Inst) 
 entries_alike f g e b (Phi ty entries tail) h = ⊎_elim (λ (w : HasOtherEdges f.blocks b entries). inl (other_edges_alike f g e b entries w)) (λ (w : HasTwoValues entries). inr w) h
 entries_alike f g e b (Alloca size head rest) h = absurd h
 entries_alike f g e b (Gep base offset head index rest) h = absurd h
+entries_alike f g e b (Step base offset terms head index rest) h = absurd h
 entries_alike f g e b (Load ty ptr rest) h = absurd h
 entries_alike f g e b (Store ty val ptr rest) h = absurd h
 entries_alike f g e b (Copy to from len head rest) h = absurd h
@@ -136,6 +137,7 @@ pub uses_alike : (f g : FuncState) → AreAlike f g → (b k : ℕ) (i : Inst) �
 uses_alike f g e b k (Phi ty entries tail) = entry_uses f g e entries
 uses_alike f g e b k (Alloca size head rest) = refl
 uses_alike f g e b k (Gep base offset head index rest) = refl
+uses_alike f g e b k (Step base offset terms head index rest) = refl
 uses_alike f g e b k (Load ty ptr rest) = refl
 uses_alike f g e b k (Store ty val ptr rest) = refl
 uses_alike f g e b k (Copy to from len head rest) = refl

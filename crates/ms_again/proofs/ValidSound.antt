@@ -6,7 +6,7 @@ use Rattle.std.specs.Option.{option_map}
 use Rattle.ms_paths.specs.Flow.{Block as Run, IsReducible}
 use Rattle.ms_ir.specs.declared.inst.Effects.{Effects}
 use Rattle.ms_ir.specs.declared.inst.Inst.{Inst}
-use Rattle.ms_ir.specs.declared.inst.Inst.TheVariants.{Alloca, Gep, Load, Store, Copy, Call, Bin, Cmp, Select, Cast, Phi}
+use Rattle.ms_ir.specs.declared.inst.Inst.TheVariants.{Alloca, Gep, Step, Load, Store, Copy, Call, Bin, Cmp, Select, Cast, Phi}
 use Rattle.ms_ir.specs.declared.inst.Term.{Term}
 use Rattle.ms_ir.specs.declared.inst.Term.TheVariants.{Br, CondBr, Ret, Unreachable}
 use Rattle.ms_ir.specs.declared.module.Sig.{Sig}
@@ -108,6 +108,7 @@ calls_same : (m n : ModuleState) (i : Inst) → m.sigs ≡ n.sigs → CallsOther
 calls_same m n (Call callee ret args effects head tail) e h = (h.0, ap (λ (ss : List Sig). slice_get ss callee.0) (sym e) ∙ h.1, h.2)
 calls_same m n (Alloca size head rest) e h = absurd h
 calls_same m n (Gep base offset head index rest) e h = absurd h
+calls_same m n (Step base offset terms head index rest) e h = absurd h
 calls_same m n (Load ty ptr rest) e h = absurd h
 calls_same m n (Store ty val ptr rest) e h = absurd h
 calls_same m n (Copy to from len head rest) e h = absurd h

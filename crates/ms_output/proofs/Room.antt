@@ -190,6 +190,7 @@ calls_moved : (by : Means) (p q : Room) (items : List ItemLines) (i : Inst) → 
 calls_moved by p q items (inst.Call _ _ _ _ _ _) h = h
 calls_moved by p q items (inst.Alloca _ _ _) h = h
 calls_moved by p q items (inst.Gep _ _ _ _ _) h = h
+calls_moved by p q items (inst.Step _ _ _ _ _ _) h = h
 calls_moved by p q items (inst.Load _ _ _) h = h
 calls_moved by p q items (inst.Store _ _ _ _) h = h
 calls_moved by p q items (inst.Copy _ _ _ _ _) h = h
