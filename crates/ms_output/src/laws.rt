@@ -21,8 +21,8 @@ pub fn one_output()
     ms_session::laws::one_annotated();
 }
 
-/// In the functions of an accepted module allocas stand in the first block, to which no edge leads. So what is said of clobbers on every run
-/// holds of each of them. And each is accepted by itself, so it is sound: what is said of runs of sound functions holds of it too.
+/// In the functions of an accepted module allocas stand in the first block, to which no edge leads. And each is accepted by itself, so it is
+/// sound: what is said of clobbers on every run, and of runs of sound functions, holds of it.
 pub fn accepted_begin_once()
     ensures once { (bytes : List ℕ) (draft : List (ℕ × Line)) (m : ModuleState) → IsDraft bytes draft → IsAccepted draft m →
         (n : ℕ) (f : FuncState) → slice_get m.bodies n ≡ Some (Some f) → BeginsOnce f }

@@ -42,8 +42,8 @@
 //! printed and given back, one after another; its form is made once and written as often as is wanted, since printing changes nothing.
 //!
 //! **What a caller may assume.** `Ok` comes with the output of the bytes, `Refused` with their refusal. Bytes have one output or one refusal, and
-//! never both ([`laws::one_output`]); so where they have an output it is given, unless memory is wanting. In each function of a module that was read and
-//! accepted allocas stand in the first block, to which no edge leads ([`laws::accepted_begin_once`]): what is said of clobbers on runs holds of each.
+//! never both ([`laws::one_output`]); so where they have an output it is given, unless memory is wanting. Each function of a module that was read and accepted
+//! is sound, and its allocas stand in the first block, to which no edge leads ([`laws::accepted_begin_once`]): what is said of clobbers on runs holds of each.
 //!
 //! **What a caller may not assume.** `render` asks for at most 1,048,576 bytes; a longer file is refused by the caller, with number 10. `Memory` says
 //! nothing of the bytes. Nothing is given for a part of a file: a fault in one function refuses all of it. The place of refusal 7 is the number of
