@@ -69,13 +69,13 @@ NoneLess f e why = (other : EditFault) → refusal_of other < refusal_of why →
 pub none_less : (f : FuncState) (e : Edit) → NoneLess f e Name
 none_less f e other lt h = (let r = ranked other in let l : refusal_of other < 11 = lt in omega (arith, r, l))
 
-pub none_next : (f : FuncState) (e : Edit) (a b : EditFault) → refusal_of b ≡ suc (refusal_of a) → NoneLess f e a → (HasFault f e a → ⊥) → NoneLess f e b
+none_next : (f : FuncState) (e : Edit) (a b : EditFault) → refusal_of b ≡ suc (refusal_of a) → NoneLess f e a → (HasFault f e a → ⊥) → NoneLess f e b
 none_next f e a b next none not other lt h = elim (cases_eq (refusal_of other) (refusal_of a)) [
   | inl same ↦ not (subst (λ (w : EditFault). HasFault f e w) (one_fault other a same) h)
   | inr ne ↦ none other (omega (arith, ne, lt, next)) h
 ]
 
-pub no_fault : (f : FuncState) (e : Edit) → NoneLess f e Memory → IsFaultless f e
+no_fault : (f : FuncState) (e : Edit) → NoneLess f e Memory → IsFaultless f e
 no_fault f e none why h = elim (cases_eq (refusal_of why) (refusal_of Memory)) [
   | inl same ↦ (let gone : HasFault f e Memory = subst (λ (w : EditFault). HasFault f e w) (one_fault why Memory same) h in gone)
   | inr ne ↦
@@ -85,3 +85,26 @@ no_fault f e none why h = elim (cases_eq (refusal_of why) (refusal_of Memory)) [
       let top : rank Memory ≡ 7 = refl in
       none why (omega (arith, ne, r, low, last, top)) h
 ]
+
+-- the faults in their order
+
+pub to_place : (f : FuncState) (e : Edit) → (HasFault f e Name → ⊥) → NoneLess f e Place
+to_place f e name = none_next f e Name Place refl (none_less f e) name
+
+pub to_kind : (f : FuncState) (e : Edit) → (HasFault f e Name → ⊥) → (HasFault f e Place → ⊥) → NoneLess f e Kind
+to_kind f e name place = none_next f e Place Kind refl (to_place f e name) place
+
+pub to_types : (f : FuncState) (e : Edit) → (HasFault f e Name → ⊥) → (HasFault f e Place → ⊥) → (HasFault f e Kind → ⊥) → NoneLess f e Types
+to_types f e name place kind = none_next f e Kind Types refl (to_kind f e name place) kind
+
+pub to_order : (f : FuncState) (e : Edit) → (HasFault f e Name → ⊥) → (HasFault f e Place → ⊥) → (HasFault f e Kind → ⊥) → (HasFault f e Types → ⊥) → NoneLess f e Order
+to_order f e name place kind types = none_next f e Types Order refl (to_types f e name place kind) types
+
+pub to_used : (f : FuncState) (e : Edit) → NoneLess f e Order → (HasFault f e Order → ⊥) → NoneLess f e Used
+to_used f e none order = none_next f e Order Used refl none order
+
+pub to_edge : (f : FuncState) (e : Edit) → NoneLess f e Order → (HasFault f e Order → ⊥) → (HasFault f e Used → ⊥) → NoneLess f e NoEdge
+to_edge f e none order used = none_next f e Used NoEdge refl (to_used f e none order) used
+
+pub faultless : (f : FuncState) (e : Edit) → NoneLess f e Order → (HasFault f e Order → ⊥) → (HasFault f e Used → ⊥) → (HasFault f e NoEdge → ⊥) → IsFaultless f e
+faultless f e none order used edge = no_fault f e (none_next f e NoEdge Memory refl (to_edge f e none order used) edge)

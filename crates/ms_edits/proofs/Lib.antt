@@ -7,3 +7,5 @@ pub mod OrderLemmas
 pub mod InsertLemmas
 pub mod AcceptLemmas
 pub mod UseLemmas
+pub mod MoveLemmas
+pub mod MissedLemmas

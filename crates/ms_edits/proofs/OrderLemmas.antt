@@ -3,7 +3,7 @@ use Rattle.std.proofs.Common.{◌≡◌, ◌≢◌, ◌∙◌, ◌+◌, ◌<◌,
 use Rattle.std.specs.Prelude.{IsTrue, ◌↔◌, Contains, slice_get}
 use Rattle.std.proofs.lemmas.Bool.{false≢true}
 use Rattle.std.proofs.lemmas.Option.{slice_get_within}
-use Rattle.ms_paths.specs.Flow.{Block as Run, IsPath, IsMet}
+use Rattle.ms_paths.specs.Flow.{IsPath, IsMet}
 use Rattle.ms_ir.specs.declared.names.LocalNo.{LocalNo}
 use Rattle.ms_ir.specs.declared.inst.Val.{Val}
 use Rattle.ms_ir.specs.declared.inst.Val.TheVariants.{Num, Local, Global}
@@ -11,7 +11,7 @@ use Rattle.ms_ir.specs.declared.inst.Entry.{Entry}
 use Rattle.ms_ir.specs.declared.inst.Inst.{Inst}
 use Rattle.ms_ir.specs.declared.inst.Inst.TheVariants.{Alloca, Gep, Step, Load, Store, Copy, Call, Bin, Cmp, Select, Cast, Phi}
 use Rattle.ms_ir.specs.declared.inst.Term.{Term}
-use Rattle.ms_ir.specs.Func.{Placed, Block, FuncState, IsAt, insts_at}
+use Rattle.ms_ir.specs.Func.{Placed, Block, FuncState, insts_at}
 use Rattle.ms_ir.specs.Graph.{graph_of}
 use Rattle.ms_ir.specs.Locals.{IsGiver, IsNumbered, IsUngiven}
 use Rattle.ms_ir.specs.Types.{is_phi}
@@ -36,14 +36,6 @@ late_told law f v l c j b k x t num is gives told = (
       let one = num.one_giver l c j d i x y gives (subst (λ (k : LocalNo). IsGiver f.blocks k d i y) (local_one v m l is' is) gives') in
       told.1 (p, (law f.blocks b p).1 path, λ passed. not (subst (λ a. IsPassed a i b k p) one.0 (subst (λ a. IsPassed c a b k p) one.1 passed))),
 )
-
--- the same for the place at which the instruction of a number was found
-pub found_late : SamePaths → (f : FuncState) (g : List Run) (v : Val) (l : LocalNo) (n c j b k : ℕ) (t : Bool) → g ≡ edges_of f.blocks → IsNumbered f → v ≡ Local l
-    → ((d : ℕ) × (i : ℕ) × (x : Placed) × IsAt f.blocks n d i x × (x.result ≡ Some l)) → ((x : Placed) × IsAt f.blocks n c j x) → (IsTrue t ↔ IsMissed g c j b k) → IsTrue t ↔ IsLate f v b k
-found_late law f g v l n c j b k t graph num is (d, i, x, at, gives) (y, there) told =
-    let one = num.one_place d i c j x y at.found there.found (at.numbered ∙ sym there.numbered) in
-    let here : slice_get (insts_at f.blocks c) j ≡ Some x = subst (λ a. slice_get (insts_at f.blocks a) j ≡ Some x) one.0 (subst (λ a. slice_get (insts_at f.blocks d) a ≡ Some x) one.1 at.found) in
-    late_told law f v l c j b k x t num is (record { found = here; gives = gives }) (subst (λ (h : List Run). IsTrue t ↔ IsMissed h c j b k) graph told)
 
 pub not_late : (f : FuncState) (v : Val) (l : LocalNo) (b k : ℕ) → v ≡ Local l → IsUngiven f.blocks l → IsTrue false ↔ IsLate f v b k
 not_late f v l b k is none = (

@@ -108,6 +108,17 @@ first_path g b way =
 pub unreached_told : (g : List Run) (c j b k : ℕ) → (IsReached g b → ⊥) → IsTrue false ↔ IsMissed g c j b k
 unreached_told g c j b k none = (λ t. absurd (false≢true t), λ w. absurd (none (w.0, w.1)))
 
+no_path_past : (g : List Run) (b : ℕ) (p : List ℕ) → IsClosed g → length g ≤ b → IsPath g b p → ⊥
+no_path_past g b [] closed le path = let entry = closed.has_entry in omega arith
+no_path_past g b (a ∷ p) closed le path = let within = closed.edges_in a b path.0 in omega arith
+
+pub past_told : (g : List Run) (c j b k : ℕ) → IsClosed g → length g ≤ b → IsTrue false ↔ IsMissed g c j b k
+past_told g c j b k closed le = (λ t. absurd (false≢true t), λ w. absurd (no_path_past g b w.0 closed le w.1))
+
+-- a place behind in the same block is passed
+pub behind_told : (g : List Run) (c j b k : ℕ) → c ≡ b → j < k → IsTrue false ↔ IsMissed g c j b k
+behind_told g c j b k same lt = (λ t. absurd (false≢true t), λ w. absurd (w.2 (inl (same, lt))))
+
 pub same_block_told : (g : List Run) (c j b k : ℕ) (t : Bool) → IsReached g b → c ≡ b → (IsTrue t ↔ (k ≤ j)) → IsTrue t ↔ IsMissed g c j b k
 same_block_told g c j b k t way same told =
     let way' = first_path g b way in (

@@ -30,7 +30,7 @@ no_number blocks n l none = (
   λ (b, k, x, at, has). absurd (not_nowhere (insts_at blocks b) n k x (none b) at.found at.numbered),
 )
 
-block_in : (blocks : List Block) (b k : ℕ) (x : Placed) → slice_get (insts_at blocks b) k ≡ Some x → b < length blocks
+pub block_in : (blocks : List Block) (b k : ℕ) (x : Placed) → slice_get (insts_at blocks b) k ≡ Some x → b < length blocks
 block_in [] b k x e = absurd (none-some x e)
 block_in (y ∷ blocks) zero k x e = omega arith
 block_in (y ∷ blocks) (suc b) k x e = (let r = block_in blocks b k x e in omega (arith, r))

@@ -8,30 +8,26 @@ ghost use Rattle.ms_ir.specs.Edits.{HasBadKind, HasBadName, HasBadOrder, HasBadP
 ghost use Rattle.ms_ir.specs.SoundFunc.{IsSoundFunc};
 ghost use Rattle.ms_flow.specs.Flow.{AreBehind};
 ghost use Rattle.ms_flow.specs.Table.{edges_of};
+ghost use Rattle.ms_edits.specs.Moved.{CanBeAfter, func_after};
 ghost use Rattle.ms_edits.specs.Told.{AtPlace, HasIn, IsLate, IsLateAt, IsMissed};
 
+use crate::moves::bad_in_move;
 use crate::operands::{more_operands, operand_at};
+use crate::spots::{After, Spot, spot_after};
 use ms_flow::Flow;
-use ms_ir::{BlockNo, Func, Inst, Name, NoMemory, Val};
+use ms_ir::{BlockNo, Edit, Func, Inst, Name, NoMemory, Val};
 use std::alloc::Global;
 
-/// A place of a block.
-#[derive(Clone, Copy)]
-pub struct Spot {
-    pub block: u32,
-    pub place: u32,
-}
-
-// What a table tells of a block.
-fn told_of(behind: &[bool], b: u32) -> bool
+/// What a table tells of a block.
+pub fn told_of(behind: &[bool], b: u32) -> bool
     requires { b < length behind.now }
     ensures { result ≡ slice_index_or behind.now b false }
 {
     behind[b as usize]
 }
 
-// Whether some path comes to a place without passing another one first; of each block it is told whether every path to it passes that one's.
-fn is_missed(flow: &Flow, behind: &[bool], first: Spot, at: Spot) -> bool
+/// Whether some path comes to a place without passing another one first; of each block it is told whether every path to it passes that one's.
+pub fn is_missed(flow: &Flow, behind: &[bool], first: Spot, at: Spot) -> bool
     requires closed { IsClosed flow.now.graph }
     requires behind { AreBehind flow.now.graph first.block behind.now }
     requires there { at.block < length flow.now.graph }
@@ -58,19 +54,23 @@ fn comes_without(alloc: Global, flow: &Flow, first: Spot, at: Spot) -> Result<bo
     Ok(is_missed(flow, behind.as_slice(), first, at))
 }
 
-// Whether some path comes to a place before the definition of a value.
-fn is_late(alloc: Global, func: &Func, flow: &Flow, val: Val, at: Spot) -> Result<bool, NoMemory>
+// Whether some path comes to a place before the definition of a value, in the function that is looked at.
+fn is_late(alloc: Global, func: &Func, flow: &Flow, after: After, val: Val, at: Spot) -> Result<bool, NoMemory>
     requires closed { IsClosed (graph_of func.now.blocks) }
     requires graph { flow.now.graph ≡ edges_of func.now.blocks }
+    requires after { CanBeAfter func.now after }
     requires there { at.block < length func.now.blocks }
-    ensures { IfOk result (λ t. IsTrue t ↔ IsLate func.now val at.block at.place) }
+    ensures { IfOk result (λ t. IsTrue t ↔ IsLate (func_after func.now after) val at.block at.place) }
 {
     ms_flow::same_paths();
     func.numbered();
     match val {
         Val::Local(l) => match func.def_of(l) {
             Some(i) => match func.place_of(i) {
-                Some((b, place)) => comes_without(alloc, flow, Spot { block: b.0, place }, at),
+                Some((b, place)) => {
+                    let first = spot_after(func, after, Spot { block: b.0, place });
+                    comes_without(alloc, flow, first, at)
+                }
                 None => Ok(false),
             },
             None => Ok(false),
@@ -80,30 +80,40 @@ fn is_late(alloc: Global, func: &Func, flow: &Flow, val: Val, at: Spot) -> Resul
 }
 
 // The same of the operand at a place of an instruction's line.
-fn is_late_at(alloc: Global, func: &Func, flow: &Flow, inst: &Inst, k: usize, at: Spot) -> Result<bool, NoMemory>
+fn is_late_at(
+    alloc: Global,
+    func: &Func,
+    flow: &Flow,
+    after: After,
+    inst: &Inst,
+    k: usize,
+    at: Spot,
+) -> Result<bool, NoMemory>
     requires closed { IsClosed (graph_of func.now.blocks) }
     requires graph { flow.now.graph ≡ edges_of func.now.blocks }
+    requires after { CanBeAfter func.now after }
     requires there { at.block < length func.now.blocks }
-    ensures { IfOk result (λ t. IsTrue t ↔ AtPlace (operands_of inst.now) (IsLateAt func.now at.block at.place) k) }
+    ensures { IfOk result (λ t. IsTrue t ↔ AtPlace (operands_of inst.now) (IsLateAt (func_after func.now after) at.block at.place) k) }
 {
     match operand_at(inst, k) {
-        Some(o) => is_late(alloc, func, flow, o.val, at),
+        Some(o) => is_late(alloc, func, flow, after, o.val, at),
         None => Ok(false),
     }
 }
 
-// Whether some path comes to a place before the definition of an operand of an instruction.
-fn has_late(alloc: Global, func: &Func, flow: &Flow, inst: &Inst, at: Spot) -> Result<bool, NoMemory>
+/// Whether some path comes to a place before the definition of an operand of an instruction, in the function that is looked at.
+pub fn has_late(alloc: Global, func: &Func, flow: &Flow, after: After, inst: &Inst, at: Spot) -> Result<bool, NoMemory>
     requires closed { IsClosed (graph_of func.now.blocks) }
     requires graph { flow.now.graph ≡ edges_of func.now.blocks }
+    requires after { CanBeAfter func.now after }
     requires there { at.block < length func.now.blocks }
-    ensures { IfOk result (λ t. IsTrue t ↔ HasIn (operands_of inst.now) (IsLateAt func.now at.block at.place)) }
+    ensures { IfOk result (λ t. IsTrue t ↔ HasIn (operands_of inst.now) (IsLateAt (func_after func.now after) at.block at.place)) }
 {
-    if is_late_at(alloc, func, flow, inst, 0, at)? {
+    if is_late_at(alloc, func, flow, after, inst, 0, at)? {
         return Ok(true);
     }
     for k in 0..more_operands(inst) {
-        if is_late_at(alloc, func, flow, inst, k + 1, at)? {
+        if is_late_at(alloc, func, flow, after, inst, k + 1, at)? {
             return Ok(true);
         }
     }
@@ -128,5 +138,37 @@ fn bad_in_insert(
     ensures { IfOk result (λ t. IsTrue t ↔ HasBadOrder func.now (Insert block place inst.now name.now)) }
 {
     func.numbered();
-    has_late(alloc, func, flow, inst, Spot { block: block.0, place })
+    has_late(alloc, func, flow, After::Same, inst, Spot { block: block.0, place })
+}
+
+/// Whether some path would come to a use before its definition.
+pub fn bad_order(alloc: Global, func: &Func, flow: &Flow, edit: &Edit) -> Result<bool, NoMemory>
+    requires sound { IsSoundFunc func.now }
+    requires graph { flow.now.graph ≡ edges_of func.now.blocks }
+    requires names { HasBadName func.now edit.now → ⊥ }
+    requires places { HasBadPlace func.now edit.now → ⊥ }
+    requires kind { HasBadKind func.now edit.now → ⊥ }
+    ensures { IfOk result (λ t. IsTrue t ↔ HasBadOrder func.now edit.now) }
+{
+    match edit {
+        Edit::Insert {
+            block,
+            place,
+            inst,
+            name,
+        } => bad_in_insert(alloc, func, flow, *block, *place, inst, name),
+        Edit::Move {
+            block,
+            place,
+            to_block,
+            to_place,
+        } => bad_in_move(
+            alloc,
+            func,
+            flow,
+            Spot { block: block.0, place: *place },
+            Spot { block: to_block.0, place: *to_place },
+        ),
+        Edit::Remove { .. } | Edit::Unlink { .. } => Ok(false),
+    }
 }

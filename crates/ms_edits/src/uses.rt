@@ -31,8 +31,8 @@ fn insts_have(func: &Func, l: LocalNo) -> bool
     false
 }
 
-// Whether a terminator has the local as its operand.
-fn is_term_operand(func: &Func, term: &Term, l: LocalNo) -> bool
+/// Whether a terminator has the local as its operand.
+pub fn is_term_operand(func: &Func, term: &Term, l: LocalNo) -> bool
     ensures { IsTrue result ↔ TermHas term.now l }
 {
     match term_operand(term) {
