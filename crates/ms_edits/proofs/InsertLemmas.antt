@@ -1,9 +1,9 @@
 -- The order of definitions and uses once an instruction is inserted: only its own operands can be used before their definitions.
-use Rattle.std.proofs.Common.{◌≡◌, ◌≢◌, ◌∙◌, ◌+◌, ◌<◌, ◌≤◌, ◌⊎◌, ℕ, zero, suc, Bool, true, false, List, length, map, Option, Some, None, refl, sym, ap, subst, inl, inr, arith}
+use Rattle.std.proofs.Common.{◌≡◌, ◌∙◌, ◌<◌, ◌≤◌, ◌⊎◌, ℕ, Bool, true, false, List, length, map, Option, Some, None, refl, sym, ap, subst, inl, inr, arith}
 use Rattle.std.specs.Prelude.{IsTrue, ◌↔◌, Contains, slice_get, if◌then◌else◌}
 use Rattle.std.proofs.lemmas.Bool.{cases_lt}
 use Rattle.std.proofs.lemmas.Option.{slice_get_within}
-use Rattle.ms_paths.specs.Flow.{IsPath, IsMet}
+use Rattle.ms_paths.specs.Flow.{IsPath}
 use Rattle.ms_ir.specs.declared.names.BlockNo.{BlockNo}
 use Rattle.ms_ir.specs.declared.names.LocalNo.{LocalNo}
 use Rattle.ms_ir.specs.declared.names.Name.{Name}
@@ -14,22 +14,22 @@ use Rattle.ms_ir.specs.declared.inst.Inst.TheVariants.{Alloca, Gep, Step, Load, 
 use Rattle.ms_ir.specs.declared.inst.Term.{Term}
 use Rattle.ms_ir.specs.declared.inst.Edit.TheVariants.{Insert}
 use Rattle.ms_ir.specs.Inst.{has_result, result_for}
-use Rattle.ms_ir.specs.Func.{Placed, Block, FuncState, insts_at, put_at, after_put}
+use Rattle.ms_ir.specs.Func.{Placed, FuncState, insts_at, after_put}
 use Rattle.ms_ir.specs.Graph.{graph_of, successors}
 use Rattle.ms_ir.specs.Locals.{HasType, IsGiver, IsNoLocal, IsNumbered}
 use Rattle.ms_ir.specs.Types.{is_phi}
 use Rattle.ms_ir.specs.Uses.{Operand, Use, operands_of, term_operands, used_at, uses_at, term_uses_at}
 use Rattle.ms_ir.specs.Sound.{IsUsedBefore}
 use Rattle.ms_ir.specs.SoundFunc.{AreValues, IsValueIn, IsSoundFunc}
-use Rattle.ms_ir.specs.Edits.{HasBadName, HasBadOrder, HasBadPlace, IsNoTarget, IsUseIn, is_movable, term_at}
-use Rattle.ms_edited.proofs.Places.{moved, put_there, put_term, put_size, moved_up, moved_past, moved_not}
+use Rattle.ms_ir.specs.Edits.{HasBadName, HasBadOrder, HasBadPlace, is_movable, term_at}
+use Rattle.ms_edited.proofs.Places.{moved, put_there, put_term, put_size, moved_up}
 use Rattle.ms_edited.proofs.Shape.{path_within, old_block}
 use Rattle.ms_edited.proofs.OnPaths.{met_stands, stands_met}
 use Rattle.ms_edited.proofs.Put.{from_put, to_put}
-use Rattle.ms_edits.specs.Told.{HasIn, IsLateAt, IsPassed}
+use Rattle.ms_edits.specs.Told.{HasIn, IsLateAt}
 use Rattle.ms_edits.proofs.NameLemmas.{has_no_type}
 use Rattle.ms_edits.proofs.PlaceLemmas.{in_func, moved_told}
-use Rattle.ms_edits.proofs.OrderLemmas.{AreKept, IsAlike, WasAlike, inst_alike, term_alike, kept_before, was_before, plain_uses, of_member, member_of}
+use Rattle.ms_edits.proofs.OrderLemmas.{AreKept, IsAlike, inst_alike, term_alike, kept_before, was_before, plain_uses, of_member, member_of}
 
 pub movable_plain : (inst : Inst) → is_movable inst ≡ true → is_phi inst ≡ false
 movable_plain (Load ty ptr tail) e = refl
@@ -128,8 +128,7 @@ module _ (f : FuncState) (n : IsNumbered f) (sound : IsSoundFunc f) (block : Blo
   -- the new result is no local of the function
   no_local : (l : LocalNo) → y.result ≡ Some l → IsNoLocal f l
   no_local l e =
-      let is = local_is (has_result inst) f.locals l e in
-      (
+      let is = local_is (has_result inst) f.locals l e in (
         (let first = n.params_first in omega (arith, first, is)),
         λ c k x h. (let below = (n.result_range l c k x h).1 in omega (arith, below, is)),
       )
@@ -157,8 +156,7 @@ module _ (f : FuncState) (n : IsNumbered f) (sound : IsSoundFunc f) (block : Blo
   -- an operand of the new instruction is used before its definition where the definition is not passed
   late_was : (o : Operand) → Contains (operands_of inst) o → IsUsedBefore g (used_at b p o) → IsLateAt f b p o
   late_was o c (path, h) =
-      let giver = giver_was h.local h.block h.place h.giver (λ none. names (inr (inr (inl (o, h.local, c, h.is_local, none))))) h.gives in
-      (
+      let giver = giver_was h.local h.block h.place h.giver (λ none. names (inr (inr (inl (o, h.local, c, h.is_local, none))))) h.gives in (
         h.local,
         h.block,
         giver.0,
@@ -183,8 +181,8 @@ module _ (f : FuncState) (n : IsNumbered f) (sound : IsSoundFunc f) (block : Blo
       )
 
   -- where an instruction of the function stands now
-  one_stands : (m d i : ℕ) (x z : Placed) (c j : ℕ) → slice_get (insts_at f.blocks c) j ≡ Some x → slice_get (insts_at g.blocks d) i ≡ Some z → z.number ≡ x.number → (d ≡ c) × (moved b p c j ≡ i)
-  one_stands m d i x z c j found at same = elim (was d i z at) [
+  one_stands : (d i : ℕ) (x z : Placed) (c j : ℕ) → slice_get (insts_at f.blocks c) j ≡ Some x → slice_get (insts_at g.blocks d) i ≡ Some z → z.number ≡ x.number → (d ≡ c) × (moved b p c j ≡ i)
+  one_stands d i x z c j found at same = elim (was d i z at) [
     | inl new ↦
         let below = n.below_made c j x found in
         let is : z.number ≡ f.made = ap (λ (w : Placed). w.number) new.2 in
@@ -207,10 +205,10 @@ module _ (f : FuncState) (n : IsNumbered f) (sound : IsSoundFunc f) (block : Blo
       path_is = path_is b path is_path;
       not_met = λ met. not (elim (met_stands g.blocks x.number b p path met) [
         | inl own ↦
-            let one = one_stands 0 b own.0 x own.1 c j gives.found own.2 own.3 in
+            let one = one_stands b own.0 x own.1 c j gives.found own.2 own.3 in
             inl (sym one.0, past_not b p c j (sym one.0) (let lt = own.4 in let at = one.1 in omega (arith, lt, at)))
         | inr on ↦
-            let one = one_stands 0 on.0 on.2 x on.3 c j gives.found on.4 on.5 in
+            let one = one_stands on.0 on.2 x on.3 c j gives.found on.4 on.5 in
             inr (subst (λ a. Contains path a) one.0 on.1)
       ]);
     },
@@ -230,8 +228,8 @@ module _ (f : FuncState) (n : IsNumbered f) (sound : IsSoundFunc f) (block : Blo
   order_was (v, inl (c, m, x, found, among), before) = elim (was c m x found) [
     | inl new ↦
         let own : Contains (uses_at g.blocks b p inst) v =
-            subst (λ a. Contains (uses_at g.blocks a p inst) v) new.0
-            (subst (λ i. Contains (uses_at g.blocks c i inst) v) new.1 (subst (λ (z : Placed). Contains (uses_at g.blocks c m z.inst) v) new.2 among)) in
+        subst (λ a. Contains (uses_at g.blocks a p inst) v) new.0
+        (subst (λ i. Contains (uses_at g.blocks c i inst) v) new.1 (subst (λ (z : Placed). Contains (uses_at g.blocks c m z.inst) v) new.2 among)) in
         let r = of_member (used_at b p) (operands_of inst) v (subst (λ us. Contains us v) own_uses own) in
         (r.0, r.1, late_was r.0 r.1 (subst (λ (w : Use). IsUsedBefore g w) (sym r.2) before))
     | inr old ↦

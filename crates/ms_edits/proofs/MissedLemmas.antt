@@ -1,11 +1,10 @@
 -- Uses of a result that some path comes to without passing the place to which its instruction is moved.
-use Rattle.std.proofs.Common.{◌≡◌, ◌≢◌, ◌∙◌, ◌+◌, ◌<◌, ◌≤◌, ◌⊎◌, ℕ, zero, suc, Bool, true, false, List, length, get_or, map, Option, Some, None, refl, sym, ap, subst, inl, inr, arith}
+use Rattle.std.proofs.Common.{◌≡◌, ◌∙◌, ◌<◌, ◌⊎◌, ℕ, Bool, false, List, length, get_or, map, Some, None, refl, sym, ap, subst, inl, inr, arith}
 use Rattle.std.specs.Prelude.{IsTrue, ◌↔◌, Contains, slice_get, option_map}
 use Rattle.std.proofs.lemmas.Bool.{false≢true}
 use Rattle.std.proofs.lemmas.Option.{same_Some, none-some, slice_get-get_or, get_or_from_slice_get, slice_get-map, slice_get_within}
 use Rattle.ms_paths.specs.Flow.{Block as Run}
 use Rattle.ms_ir.specs.declared.names.LocalNo.{LocalNo}
-use Rattle.ms_ir.specs.declared.inst.Val.{Val}
 use Rattle.ms_ir.specs.declared.inst.Val.TheVariants.{Local}
 use Rattle.ms_ir.specs.declared.inst.Entry.{Entry}
 use Rattle.ms_ir.specs.declared.inst.Inst.{Inst}
@@ -13,11 +12,11 @@ use Rattle.ms_ir.specs.declared.inst.Term.{Term}
 use Rattle.ms_ir.specs.Func.{Placed, Block, FuncState, IsAt, IsNowhere, insts_at, no_block, parts_of, node_parts}
 use Rattle.ms_ir.specs.Graph.{graph_of}
 use Rattle.ms_ir.specs.Locals.{IsNumbered}
-use Rattle.ms_ir.specs.Uses.{Operand, Use, operands_of, term_operands, used_at, entry_use, uses_at, term_uses_at}
+use Rattle.ms_ir.specs.Uses.{Use, operands_of, term_operands, used_at, entry_use, uses_at}
 use Rattle.ms_ir.specs.declared.func.Node.{Node}
 use Rattle.ms_ir.specs.Types.{is_phi}
 use Rattle.ms_ir.specs.SoundFunc.{IsSoundFunc}
-use Rattle.ms_ir.specs.Edits.{IsUseIn, term_at}
+use Rattle.ms_ir.specs.Edits.{term_at}
 use Rattle.ms_edited.proofs.Faults.{there_is}
 use Rattle.ms_edits.proofs.PlaceLemmas.{node_gone, node_there, same_inst, same_result}
 use Rattle.ms_ir.proofs.FuncLemmas.{not_nowhere}

@@ -1,24 +1,23 @@
 -- An instruction is moved: where the instructions stand, what gives locals, and what paths tell of uses.
-use Rattle.std.proofs.Common.{◌≡◌, ◌≢◌, ◌∙◌, ◌+◌, ◌<◌, ◌≤◌, ◌⊎◌, ℕ, zero, suc, Bool, true, false, List, [], ◌∷◌, length, get_or, set, map, Option, Some, None, refl, sym, ap, subst, inl, inr, arith}
+use Rattle.std.proofs.Common.{◌≡◌, ◌∙◌, ◌+◌, ◌<◌, ◌≤◌, ◌⊎◌, ℕ, zero, suc, Bool, false, List, [], ◌∷◌, length, get_or, set, map, Option, Some, refl, sym, ap, subst, inl, inr, arith}
 use Rattle.std.specs.Prelude.{IsTrue, ◌↔◌, Contains, slice_get}
 use Rattle.std.proofs.lemmas.Bool.{cases_lt}
 use Rattle.std.proofs.lemmas.Option.{same_Some, slice_get_within}
-use Rattle.ms_paths.specs.Flow.{Block as Run, IsPath, IsMet}
+use Rattle.ms_paths.specs.Flow.{Block as Run, IsPath}
 use Rattle.ms_ir.specs.declared.names.BlockNo.{BlockNo}
 use Rattle.ms_ir.specs.declared.names.LocalNo.{LocalNo}
 use Rattle.ms_ir.specs.declared.inst.Edit.TheVariants.{Move}
 use Rattle.ms_ir.specs.declared.inst.Val.{Val}
 use Rattle.ms_ir.specs.declared.inst.Val.TheVariants.{Local}
-use Rattle.ms_ir.specs.declared.inst.Inst.{Inst}
 use Rattle.ms_ir.specs.declared.inst.Term.{Term}
-use Rattle.ms_ir.specs.Func.{Placed, Block, FuncState, IsAt, insts_at, put_at, cut_at, with_insts, no_block}
+use Rattle.ms_ir.specs.Func.{Placed, Block, FuncState, IsAt, insts_at, cut_at, with_insts, no_block}
 use Rattle.ms_ir.specs.Graph.{graph_of, successors}
-use Rattle.ms_ir.specs.Locals.{IsGiver, IsNumbered, IsUngiven}
+use Rattle.ms_ir.specs.Locals.{IsNumbered, IsUngiven}
 use Rattle.ms_ir.specs.Types.{is_phi}
 use Rattle.ms_ir.specs.Uses.{Operand, Use, operands_of, term_operands, used_at, uses_at, term_uses_at}
 use Rattle.ms_ir.specs.Sound.{IsUsedBefore}
-use Rattle.ms_ir.specs.SoundFunc.{AreValues, IsSoundFunc}
-use Rattle.ms_ir.specs.Edits.{HasBadKind, HasBadName, HasBadPlace, IsNoTarget, IsUseIn, put_again, term_at}
+use Rattle.ms_ir.specs.SoundFunc.{IsSoundFunc}
+use Rattle.ms_ir.specs.Edits.{HasBadKind, HasBadName, HasBadPlace, IsUseIn, put_again, term_at}
 use Rattle.ms_flow.specs.Table.{edges_of}
 use Rattle.ms_edited.proofs.Places.{moved, put_there, put_term, put_size, cut_term, cut_size, moved_up, moved_down}
 use Rattle.ms_edited.proofs.Shape.{path_within, old_block}
@@ -29,8 +28,8 @@ use Rattle.ms_edited.proofs.Faults.{there_is, movable_at, place_in}
 use Rattle.ms_edits.specs.declared.spots.Spot.{Spot}
 use Rattle.ms_edits.specs.declared.spots.After.{After}
 use Rattle.ms_edits.specs.declared.spots.After.TheVariants.{Same, Moved}
-use Rattle.ms_edits.specs.Told.{HasIn, IsLate, IsLateAt, IsMissed, IsPassed}
-use Rattle.ms_edits.specs.Moved.{CanBeAfter, IsMove, IsSomeMissed, IsSpotAfter, IsUseMissed, func_after}
+use Rattle.ms_edits.specs.Told.{HasIn, IsLate, IsLateAt, IsMissed}
+use Rattle.ms_edits.specs.Moved.{CanBeAfter, IsMove, IsSomeMissed, IsSpotAfter, func_after}
 use Rattle.ms_edits.proofs.PlaceLemmas.{in_func, moved_is, moved_told}
 use Rattle.ms_edits.proofs.InsertLemmas.{movable_plain}
 use Rattle.ms_edits.proofs.OrderLemmas.{AreKept, IsAlike, SamePaths, inst_alike, kept_before, late_told, member_of, not_late, of_member, plain_uses, term_alike, was_before}
@@ -192,11 +191,10 @@ module _ (f : FuncState) (n : IsNumbered f) (from to : Spot) (move : IsMove f fr
   kept : (w : Placed) (a i : ℕ) → slice_get (insts_at left a) i ≡ Some w → (c k : ℕ) → AreKept f.blocks g.blocks w.number c (moved b p c k) (moved d q c k)
   kept w a i stands c k e j z found same =
       let s = other_stands e j z found
-          (λ block place.
-          let at : slice_get (insts_at f.blocks b) p ≡ Some z = subst (λ y. slice_get (insts_at f.blocks y) p ≡ Some z) block (subst (λ y. slice_get (insts_at f.blocks e) y ≡ Some z) place found) in
-          let one : z ≡ m = same_Some z m (sym at ∙ taken.1) in
-          number_out f n b p m taken.1 a i w stands (sym same ∙ ap (λ (y : Placed). y.number) one)) in
-      (
+      (λ block place.
+      let at : slice_get (insts_at f.blocks b) p ≡ Some z = subst (λ y. slice_get (insts_at f.blocks y) p ≡ Some z) block (subst (λ y. slice_get (insts_at f.blocks e) y ≡ Some z) place found) in
+      let one : z ≡ m = same_Some z m (sym at ∙ taken.1) in
+      number_out f n b p m taken.1 a i w stands (sym same ∙ ap (λ (y : Placed). y.number) one)) in (
         moved d q e s.0,
         s.2,
         λ block less.
@@ -242,8 +240,8 @@ module _ (f : FuncState) (n : IsNumbered f) (from to : Spot) (move : IsMove f fr
     old_use u (inl (c, k, x, found, among)) before i stands = elim (was c k x found) [
       | inl own ↦
           let here : Contains (uses_at g.blocks d q m.inst) u =
-              subst (λ a. Contains (uses_at g.blocks a q m.inst) u) own.0
-              (subst (λ j. Contains (uses_at g.blocks c j m.inst) u) own.1 (subst (λ (z : Placed). Contains (uses_at g.blocks c k z.inst) u) own.2 among)) in
+          subst (λ a. Contains (uses_at g.blocks a q m.inst) u) own.0
+          (subst (λ j. Contains (uses_at g.blocks c j m.inst) u) own.1 (subst (λ (z : Placed). Contains (uses_at g.blocks c k z.inst) u) own.2 among)) in
           let r = of_member (used_at d q) (operands_of m.inst) u (subst (λ us. Contains us u) own_uses here) in
           (r.0, r.1, used_late g (used_at d q r.0) (subst (λ (w : Use). IsUsedBefore g w) (sym r.2) before))
       | inr old ↦
@@ -358,7 +356,7 @@ pub found_late : SamePaths → (f : FuncState) (after : After) (h : List Run) (v
 found_late law f after h v l i at r a k t graph n can is (c, j, x, there, gives) (y, here) stands told =
     let one = n.one_place c j at.block at.place x y there.found here.found (there.numbered ∙ sym here.numbered) in
     let found : slice_get (insts_at f.blocks at.block) at.place ≡ Some x =
-        subst (λ e. slice_get (insts_at f.blocks e) at.place ≡ Some x) one.0 (subst (λ e. slice_get (insts_at f.blocks c) e ≡ Some x) one.1 there.found) in
+    subst (λ e. slice_get (insts_at f.blocks e) at.place ≡ Some x) one.0 (subst (λ e. slice_get (insts_at f.blocks c) e ≡ Some x) one.1 there.found) in
     let same : h ≡ edges_of (func_after f after).blocks = graph ∙ sym (edges_after f after n can) in
     late_told law (func_after f after) v l r.block r.place a k x t (numbered_after f after n can) is (record { found = stands x found; gives = gives })
     (subst (λ (e : List Run). IsTrue t ↔ IsMissed e r.block r.place a k) same told)

@@ -1,16 +1,13 @@
 -- Names that are taken, locals that are not there, and types that are not the ones written.
-use Rattle.std.proofs.Common.{◌≡◌, ◌≢◌, ◌∙◌, ◌<◌, ◌≤◌, ◌⊎◌, ℕ, Bool, true, false, not, Option, Some, None, refl, sym, ap, subst, inl, inr, ⊎_elim, arith}
-use Rattle.std.specs.Prelude.{IsTrue, ◌↔◌, is_some}
+use Rattle.std.proofs.Common.{◌≡◌, ◌∙◌, Bool, false, not, inl, inr, arith}
+use Rattle.std.specs.Prelude.{IsTrue, ◌↔◌}
 use Rattle.std.proofs.lemmas.Bool.{both_ways, not-true, not_from_false, false_from_ne_true, false≢true}
 use Rattle.std.proofs.lemmas.Option.{slice_get_within}
 use Rattle.ms_ir.specs.declared.names.LocalNo.{LocalNo}
 use Rattle.ms_ir.specs.declared.names.Name.{Name}
 use Rattle.ms_ir.specs.declared.names.Ty.{Ty}
-use Rattle.ms_ir.specs.declared.inst.Inst.{Inst}
-use Rattle.ms_ir.specs.declared.inst.Inst.TheVariants.{Alloca, Gep, Step, Load, Store, Copy, Call, Bin, Cmp, Select, Cast, Phi}
-use Rattle.ms_ir.specs.Inst.{has_result, result_type}
 use Rattle.ms_ir.specs.Func.{FuncState}
-use Rattle.ms_ir.specs.Locals.{HasType, IsNoLocal, IsFirstLocal, IsFirstBlock, NoLocalNamed, NoBlockNamed}
+use Rattle.ms_ir.specs.Locals.{HasType, IsNoLocal, NoLocalNamed, NoBlockNamed}
 use Rattle.ms_ir.specs.Edits.{IsNameTaken}
 use Rattle.ms_edits.specs.Told.{HasNotType}
 
@@ -29,32 +26,8 @@ other_told f l ty written same has one told = (
 pub no_other : (f : FuncState) (l : LocalNo) (written : Ty) → IsNoLocal f l → IsTrue false ↔ HasNotType f l written
 no_other f l written none = (λ t. absurd (false≢true t), λ h. absurd (has_no_type f l h.0 none h.1))
 
-pub not_missing : (f : FuncState) (l : LocalNo) (ty : Ty) → HasType f l ty → IsTrue false ↔ IsNoLocal f l
-not_missing f l ty has = (λ t. absurd (false≢true t), λ none. absurd (has_no_type f l ty none has))
-
-pub taken_local : (f : FuncState) (name : Name) (l : LocalNo) → IsFirstLocal f name l → IsNameTaken f name
-taken_local f name l h = (h.is_name, inl (l, h.named))
-
-pub taken_block : (f : FuncState) (name : Name) (b : ℕ) → IsFirstBlock f.blocks name b → IsNameTaken f name
-taken_block f name b h = (h.is_name, inr (b, h.named))
-
 pub not_taken : (f : FuncState) (name : Name) → NoLocalNamed f name → NoBlockNamed f.blocks name → IsNameTaken f name → ⊥
 not_taken f name (inl e) blocks h = h.0 e
 not_taken f name (inr no_local) (inl e) h = h.0 e
 not_taken f name (inr no_local) (inr no_block) (is, inl a) = no_local a.0 a.1
 not_taken f name (inr no_local) (inr no_block) (is, inr a) = no_block a.0 a.1
-
--- an instruction gives a result exactly where its type can be told
-pub typed_result : (inst : Inst) → is_some (result_type inst) ≡ has_result inst
-typed_result (Alloca size head tail) = refl
-typed_result (Gep base offset head index tail) = refl
-typed_result (Step base offset terms head index tail) = refl
-typed_result (Load ty ptr tail) = refl
-typed_result (Store ty val ptr tail) = refl
-typed_result (Copy to from len head tail) = refl
-typed_result (Call callee ret args effects head tail) = refl
-typed_result (Bin op flags ty a b tail) = refl
-typed_result (Cmp pred flags ty a b tail) = refl
-typed_result (Select cond ty a b tail) = refl
-typed_result (Cast op flags from a to tail) = refl
-typed_result (Phi ty entries tail) = refl

@@ -1,12 +1,12 @@
 -- Uses that some path comes to before the definition of what is used.
-use Rattle.std.proofs.Common.{◌≡◌, ◌≢◌, ◌∙◌, ◌+◌, ◌<◌, ◌≤◌, ◌⊎◌, ℕ, zero, suc, Bool, true, false, List, [], ◌∷◌, length, map, Option, Some, None, refl, sym, ap, subst, inl, inr, arith}
+use Rattle.std.proofs.Common.{◌≡◌, ◌∙◌, ◌<◌, ◌⊎◌, ℕ, zero, suc, Bool, false, List, [], ◌∷◌, length, map, Some, refl, sym, ap, subst, inl, inr, arith}
 use Rattle.std.specs.Prelude.{IsTrue, ◌↔◌, Contains, slice_get}
 use Rattle.std.proofs.lemmas.Bool.{false≢true}
 use Rattle.std.proofs.lemmas.Option.{slice_get_within}
-use Rattle.ms_paths.specs.Flow.{IsPath, IsMet}
+use Rattle.ms_paths.specs.Flow.{IsPath}
 use Rattle.ms_ir.specs.declared.names.LocalNo.{LocalNo}
 use Rattle.ms_ir.specs.declared.inst.Val.{Val}
-use Rattle.ms_ir.specs.declared.inst.Val.TheVariants.{Num, Local, Global}
+use Rattle.ms_ir.specs.declared.inst.Val.TheVariants.{Local}
 use Rattle.ms_ir.specs.declared.inst.Entry.{Entry}
 use Rattle.ms_ir.specs.declared.inst.Inst.{Inst}
 use Rattle.ms_ir.specs.declared.inst.Inst.TheVariants.{Alloca, Gep, Step, Load, Store, Copy, Call, Bin, Cmp, Select, Cast, Phi}
@@ -119,8 +119,7 @@ WasAlike old new c k m operands uses v = (u : Use) × Contains uses u × IsAlike
 
 pub plain_alike : (old new : List Block) (c k m : ℕ) (operands : List Operand) (v : Use) → Contains (map (used_at c m) operands) v → WasAlike old new c k m operands (map (used_at c k) operands) v
 plain_alike old new c k m operands v among =
-    let r = of_member (used_at c m) operands v among in
-    (
+    let r = of_member (used_at c m) operands v among in (
       used_at c k r.0,
       member_of (used_at c k) operands r.0 r.1,
       record {
@@ -134,8 +133,7 @@ plain_alike old new c k m operands v among =
 phi_alike : (old new : List Block) (c k m : ℕ) (operands : List Operand) (entries : List Entry) (F : Entry → Operand) → ((e : Entry) → (F e).val ≡ e.val) → operands ≡ map F entries → (v : Use)
     → Contains (map (entry_use new) entries) v → WasAlike old new c k m operands (map (entry_use old) entries) v
 phi_alike old new c k m operands entries F same is v among =
-    let r = of_member (entry_use new) entries v among in
-    (
+    let r = of_member (entry_use new) entries v among in (
       entry_use old r.0,
       member_of (entry_use old) entries r.0 r.1,
       record {
@@ -171,8 +169,7 @@ AreKept old new n c k m =
 
 pub kept_before : (old new : List Block) (n c k m : ℕ) (operands : List Operand) (u v : Use) → IsAlike old new c k m operands u v → AreKept old new n c k m → IsKeptBefore old new n u v
 kept_before old new n c k m operands u v alike each d j z found is =
-    let r = each d j z found is in
-    (
+    let r = each d j z found is in (
       r.0,
       r.1,
       λ same less. elim alike.at [

@@ -5,7 +5,7 @@ use Rattle.std.proofs.lemmas.Bool.{cases_eq, cases_lt, both_ways, not-true, not_
 use Rattle.ms_paths.specs.Flow.{Block as Run, block_at, HasEdge, IsPath, IsReached, IsClosed, IsOnEveryPath}
 use Rattle.ms_flow.specs.Flow.{order_of}
 use Rattle.ms_flow.proofs.Members.{here, here_is, there, in_none, in_cons, in_or_not}
-use Rattle.ms_edits.specs.Told.{IsPassed, IsMissed}
+use Rattle.ms_edits.specs.Told.{IsMissed}
 
 -- the graph without the edges that leave h
 abbrev shut : ℕ → List Run → List Run
@@ -104,9 +104,6 @@ first_path g b way =
     ⊎_elim (λ (none : Contains (b ∷ way.0) b → ⊥). absurd (none (here b way.0)))
     (λ (q : (q : List ℕ) × IsPath g b q × (Contains q b → ⊥)). q)
     (shorten g way.0 b b way.1)
-
-pub unreached_told : (g : List Run) (c j b k : ℕ) → (IsReached g b → ⊥) → IsTrue false ↔ IsMissed g c j b k
-unreached_told g c j b k none = (λ t. absurd (false≢true t), λ w. absurd (none (w.0, w.1)))
 
 no_path_past : (g : List Run) (b : ℕ) (p : List ℕ) → IsClosed g → length g ≤ b → IsPath g b p → ⊥
 no_path_past g b [] closed le path = let entry = closed.has_entry in omega arith

@@ -1,8 +1,8 @@
 -- Where an instruction can be put: behind the phis, which come first.
-use Rattle.std.proofs.Common.{◌≡◌, ◌∙◌, ◌+◌, ◌<◌, ◌≤◌, ◌⊎◌, ℕ, zero, suc, Bool, true, false, List, [], ◌∷◌, length, Option, Some, None, refl, sym, ap, subst, inl, inr, arith}
+use Rattle.std.proofs.Common.{◌≡◌, ◌∙◌, ◌+◌, ◌<◌, ◌≤◌, ◌⊎◌, ℕ, zero, suc, Bool, true, List, length, Option, Some, None, refl, sym, ap, inl, inr, arith}
 use Rattle.std.specs.Prelude.{IsTrue, ◌↔◌, slice_get, option_map}
-use Rattle.std.proofs.lemmas.Bool.{cases_eq, cases_lt, false≢true}
-use Rattle.std.proofs.lemmas.Option.{slice_get_within, none-some, same_Some}
+use Rattle.std.proofs.lemmas.Bool.{cases_eq, cases_lt}
+use Rattle.std.proofs.lemmas.Option.{slice_get_within, same_Some}
 use Rattle.ms_ir.specs.declared.names.LocalNo.{LocalNo}
 use Rattle.ms_ir.specs.declared.names.Name.{Name}
 use Rattle.ms_ir.specs.declared.inst.Inst.{Inst}
@@ -11,13 +11,12 @@ use Rattle.ms_ir.specs.Func.{Placed, Block, FuncState, insts_at, cut_at, parts_o
 use Rattle.ms_ir.specs.Types.{is_phi}
 use Rattle.ms_ir.specs.SoundFunc.{IsSoundFunc}
 use Rattle.ms_ir.specs.Edits.{IsNoBlock, IsNoTarget}
-use Rattle.ms_edited.proofs.Places.{behind, moved, moved_up, moved_end, cut_moves}
+use Rattle.ms_edited.proofs.Places.{behind, moved, moved_up, cut_moves}
 use Rattle.ms_edited.proofs.Cut.{from_cut}
 use Rattle.ms_edited.proofs.Faults.{there_is}
 use Rattle.ms_edits.specs.Told.{IsPhiAt}
 
 -- ---- an instruction that was looked up
-
 
 pub node_there : (o : Option Placed) (node : Node) → Some (parts_of node) ≡ option_map node_parts o → (x : Placed) × (o ≡ Some x) × (node_parts x ≡ parts_of node)
 node_there None node e = cc
@@ -32,22 +31,6 @@ same_inst x node e = ap (λ (p : Inst × Option LocalNo × Name). p.0) e
 
 pub same_result : (x : Placed) (node : Node) → node_parts x ≡ parts_of node → x.result ≡ node.result
 same_result x node e = ap (λ (p : Inst × Option LocalNo × Name). p.1) e
-
--- what a test tells of the instruction that was looked up, it tells of the one at the place
-pub told_at : (P : Inst → Type 0) (xs : List Placed) (k : ℕ) (node : Node) (t : Bool) → Some (parts_of node) ≡ option_map node_parts (slice_get xs k) → (IsTrue t ↔ P node.inst)
-    → IsTrue t ↔ ((x : Placed) × (slice_get xs k ≡ Some x) × P x.inst)
-told_at P xs k node t e told =
-    let r = node_there (slice_get xs k) node e in
-    let is = same_inst r.0 node r.2 in (
-      λ s. (r.0, r.1, subst P (sym is) (told.0 s)),
-      λ h. told.1 (let one : h.0 ≡ r.0 = same_Some h.0 r.0 (sym h.1 ∙ r.1) in subst P (ap (λ (z : Placed). z.inst) one ∙ is) h.2),
-    )
-
-pub none_told : (P : Inst → Type 0) (xs : List Placed) (k : ℕ) → None ≡ option_map node_parts (slice_get xs k) → IsTrue false ↔ ((x : Placed) × (slice_get xs k ≡ Some x) × P x.inst)
-none_told P xs k e = (
-  λ s. absurd (false≢true s),
-  λ h. absurd (none-some h.0 (sym (node_gone (slice_get xs k) e) ∙ h.1)),
-)
 
 -- ---- places behind one that is put
 
@@ -87,30 +70,6 @@ moved_is b p c k r up low out = elim (moved_told b p c k) [
   ]
 ]
 
-pub count_left : (blocks : List Block) (b p c : ℕ) → b < length blocks → p < length (insts_at blocks b) → b ≡ c → suc (length (insts_at (cut_at blocks b p) c)) ≡ length (insts_at blocks c)
-count_left blocks b p c lt in' e =
-    let last = moved_end blocks b p c lt in' in
-    elim (moved_told b p c (length (insts_at (cut_at blocks b p) c))) [
-      | inl a ↦
-          let less : p < length (insts_at blocks c) = subst (λ d. p < length (insts_at blocks d)) e in' in
-          absurd (omega (arith, a.1, a.2, last, less))
-      | inr rest ↦ elim rest [
-        | inl a ↦ sym a.2 ∙ last
-        | inr a ↦ absurd (a.0 (sym e))
-      ]
-    ]
-
-pub count_same : (blocks : List Block) (b p c : ℕ) → b < length blocks → p < length (insts_at blocks b) → (b ≡ c → ⊥) → length (insts_at (cut_at blocks b p) c) ≡ length (insts_at blocks c)
-count_same blocks b p c lt in' ne =
-    let last = moved_end blocks b p c lt in' in
-    elim (moved_told b p c (length (insts_at (cut_at blocks b p) c))) [
-      | inl a ↦ absurd (ne (sym a.0))
-      | inr rest ↦ elim rest [
-        | inl a ↦ absurd (ne (sym a.0))
-        | inr a ↦ sym a.1 ∙ last
-      ]
-    ]
-
 -- ---- phis come first
 
 abbrev pub ArePhisFirst : List Placed → Type 0
@@ -135,16 +94,6 @@ target_told xs p t first le told = (
           (y.0, y.1, first phi.0 p phi.1 y.0 phi.2 phi.3 (let le' = phi.4 in omega (arith, other, le')) y.1)
     ]
     | inr past ↦ absurd (omega (arith, past, le))
-  ]),
-)
-
--- at the end none stands, and there one can be put
-pub end_told : (xs : List Placed) (p : ℕ) → p ≡ length xs → IsTrue false ↔ IsNoTarget xs p
-end_told xs p e = (
-  λ s. absurd (false≢true s),
-  λ h. absurd (elim h [
-    | inl phi ↦ (let within = slice_get_within xs phi.0 phi.1 phi.2 in let le = phi.4 in omega (arith, within, le, e))
-    | inr past ↦ omega (arith, past, e)
   ]),
 )
 

@@ -1,17 +1,16 @@
 -- The block to which a cut edge led: it has phis and no edge exactly where each of its phis has one entry.
-use Rattle.std.proofs.Common.{◌≡◌, ◌≢◌, ◌∙◌, ◌+◌, ◌<◌, ◌⊎◌, ℕ, zero, suc, Bool, true, false, List, [], ◌∷◌, length, map, Option, Some, None, refl, sym, ap, subst, inl, inr, arith}
+use Rattle.std.proofs.Common.{◌≡◌, ◌∙◌, ◌+◌, ◌<◌, ℕ, zero, suc, Bool, true, false, List, [], ◌∷◌, length, map, Option, Some, None, refl, sym, ap, subst, inl, inr, arith}
 use Rattle.std.specs.Prelude.{IsTrue, ◌↔◌, Contains, slice_get, option_map, if◌then◌else◌, ◌==◌}
 use Rattle.std.proofs.lemmas.Bool.{cases_eq}
 use Rattle.std.proofs.lemmas.List.{length-map}
 use Rattle.std.proofs.lemmas.Option.{slice_get_within}
 use Rattle.ms_ir.specs.declared.names.BlockNo.{BlockNo}
-use Rattle.ms_ir.specs.declared.inst.Entry.{Entry}
 use Rattle.ms_ir.specs.declared.inst.Inst.{Inst}
 use Rattle.ms_ir.specs.declared.inst.Inst.TheVariants.{Alloca, Gep, Step, Load, Store, Copy, Call, Bin, Cmp, Select, Cast, Phi}
 use Rattle.ms_ir.specs.declared.inst.Term.{Term}
 use Rattle.ms_ir.specs.declared.inst.Term.TheVariants.{Br, CondBr, Ret, Unreachable}
-use Rattle.ms_ir.specs.Func.{Placed, Block, FuncState, insts_at, no_block}
-use Rattle.ms_ir.specs.Changes.{IsCondBr, kept_target, cut_target, placed_without, with_entry_lost, with_term, with_edge_cut}
+use Rattle.ms_ir.specs.Func.{Placed, Block, FuncState, insts_at}
+use Rattle.ms_ir.specs.Changes.{IsCondBr, kept_target, cut_target, placed_without, with_term, with_edge_cut}
 use Rattle.ms_paths.specs.Flow.{block_at, HasEdge}
 use Rattle.ms_ir.specs.Graph.{graph_of, successors}
 use Rattle.ms_ir.specs.Types.{is_phi}
@@ -173,8 +172,7 @@ module _ (f : FuncState) (sound : IsSoundFunc f) (b slot : ℕ) (is_cond : IsCon
       let e = one.1.0 in
       let same = one.1.1 in
       let nothing : (a : ℕ) → times_in a [] ≡ 0 = λ a. refl in
-      let from_b : e ≡ b = same_number e b (λ ne. (let at = same b in let no = times_none b e [] ne in let z = nothing b in omega (arith, at, no, z, edges_here))) in
-      (
+      let from_b : e ≡ b = same_number e b (λ ne. (let at = same b in let no = times_none b e [] ne in let z = nothing b in omega (arith, at, no, z, edges_here))) in (
         (0, lost t b t x, stood 0 ∙ ap (option_map (lost t b t)) found, lost_phi t b t x.inst ∙ one.0),
         λ a. elim (cases_eq a b) [
           | inl here ↦
@@ -218,7 +216,7 @@ graph_size (x ∷ blocks) = ap suc (graph_size blocks)
 pub cut_in : (f : FuncState) → IsSoundFunc f → (b slot : ℕ) (target : BlockNo) → IsCondBr (term_at f.blocks b) → cut_target (term_at f.blocks b) slot ≡ target → target.0 < length f.blocks
 cut_in f sound b slot target is e =
     let edge : HasEdge (graph_of f.blocks) b (cut_target (term_at f.blocks b) slot).0 =
-        subst (λ bs. Contains bs (cut_target (term_at f.blocks b) slot).0) (sym (next_at f.blocks b)) (cut_there f.blocks (term_at f.blocks b) slot is) in
+    subst (λ bs. Contains bs (cut_target (term_at f.blocks b) slot).0) (sym (next_at f.blocks b)) (cut_there f.blocks (term_at f.blocks b) slot is) in
     let within = sound.closed.edges_in b (cut_target (term_at f.blocks b) slot).0 edge in
     let same = ap (λ (t : BlockNo). t.0) e in
     let size = graph_size f.blocks in

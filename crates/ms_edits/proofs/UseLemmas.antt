@@ -1,11 +1,10 @@
 -- The uses of a local, over all instructions and terminators.
-use Rattle.std.proofs.Common.{◌≡◌, ◌∙◌, ◌+◌, ◌<◌, ◌≤◌, ◌⊎◌, ℕ, zero, suc, Bool, true, false, List, [], ◌∷◌, length, get_or, Option, Some, None, refl, sym, ap, subst, inl, inr, arith}
-use Rattle.std.specs.Prelude.{IsTrue, ◌↔◌, Contains, slice_get, option_map}
+use Rattle.std.proofs.Common.{◌≡◌, ◌∙◌, ◌<◌, ℕ, zero, suc, Bool, false, List, [], ◌∷◌, length, get_or, Some, refl, sym, ap, subst, arith}
+use Rattle.std.specs.Prelude.{IsTrue, ◌↔◌, slice_get, option_map}
 use Rattle.std.proofs.lemmas.Bool.{false≢true}
 use Rattle.std.proofs.lemmas.Option.{slice_get_within, slice_get-get_or, get_or_from_slice_get, none-some, same_Some}
 use Rattle.ms_ir.specs.declared.names.LocalNo.{LocalNo}
 use Rattle.ms_ir.specs.declared.inst.Inst.{Inst}
-use Rattle.ms_ir.specs.declared.inst.Term.{Term}
 use Rattle.ms_ir.specs.Func.{Placed, Block, FuncState, IsAt, IsNowhere, insts_at, no_block, parts_of, node_parts}
 use Rattle.ms_ir.specs.Locals.{IsNumbered}
 use Rattle.ms_ir.proofs.FuncLemmas.{not_nowhere}

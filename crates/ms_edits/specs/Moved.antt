@@ -1,8 +1,7 @@
 -- A function in which the instruction of one place is moved to another.
-use Rattle.std.specs.Prelude.{◌≡◌, ◌<◌, ℕ, List, length, Option, Some, slice_get, Contains}
+use Rattle.std.specs.Prelude.{◌≡◌, ◌<◌, ℕ, List, length, Option, Some, slice_get}
 use Rattle.ms_ir.specs.declared.names.LocalNo.{LocalNo}
 use Rattle.ms_ir.specs.declared.inst.Val.TheVariants.{Local}
-use Rattle.ms_ir.specs.declared.inst.Inst.{Inst}
 use Rattle.ms_ir.specs.Func.{Placed, Block, FuncState, cut_at, insts_at}
 use Rattle.ms_ir.specs.Graph.{graph_of}
 use Rattle.ms_ir.specs.Uses.{Use, uses_at, term_uses_at}

@@ -133,7 +133,9 @@ pub fn bad_kind(alloc: Global, func: &Func, edit: &Edit) -> Result<bool, NoMemor
 {
     match edit {
         Edit::Insert { inst, .. } => Ok(!is_movable(inst)),
-        Edit::Remove { block, place } | Edit::Move { block, place, .. } => Ok(is_not_movable(func, *block, *place)),
+        Edit::Remove { block, place } | Edit::Move { block, place, .. } => Ok(is_not_movable(
+            func, *block, *place,
+        )),
         Edit::Unlink { block, slot } => is_bad_unlink(alloc, func, *block, *slot),
     }
 }

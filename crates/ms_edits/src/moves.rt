@@ -50,7 +50,16 @@ fn is_local(val: Val, l: LocalNo) -> bool
 }
 
 // Whether the entry at a place of a phi has such a use.
-fn is_entry_missed(func: &Func, flow: &Flow, behind: &[bool], from: Spot, to: Spot, l: LocalNo, entries: &Entries, k: usize) -> bool
+fn is_entry_missed(
+    func: &Func,
+    flow: &Flow,
+    behind: &[bool],
+    from: Spot,
+    to: Spot,
+    l: LocalNo,
+    entries: &Entries,
+    k: usize,
+) -> bool
     requires closed { IsClosed (graph_of func.now.blocks) }
     requires graph { flow.now.graph ≡ edges_of func.now.blocks }
     requires moves { IsMove func.now from to }
@@ -72,7 +81,15 @@ fn is_entry_missed(func: &Func, flow: &Flow, behind: &[bool], from: Spot, to: Sp
 }
 
 // Whether an entry of a phi has such a use.
-fn is_phi_missed(func: &Func, flow: &Flow, behind: &[bool], from: Spot, to: Spot, l: LocalNo, entries: &Entries) -> bool
+fn is_phi_missed(
+    func: &Func,
+    flow: &Flow,
+    behind: &[bool],
+    from: Spot,
+    to: Spot,
+    l: LocalNo,
+    entries: &Entries,
+) -> bool
     requires closed { IsClosed (graph_of func.now.blocks) }
     requires graph { flow.now.graph ≡ edges_of func.now.blocks }
     requires moves { IsMove func.now from to }
@@ -88,7 +105,16 @@ fn is_phi_missed(func: &Func, flow: &Flow, behind: &[bool], from: Spot, to: Spot
 }
 
 // Whether an instruction that has the local as an operand, and is no phi, has such a use at a place.
-fn is_operand_missed(func: &Func, flow: &Flow, behind: &[bool], from: Spot, to: Spot, l: LocalNo, inst: &Inst, at: Spot) -> bool
+fn is_operand_missed(
+    func: &Func,
+    flow: &Flow,
+    behind: &[bool],
+    from: Spot,
+    to: Spot,
+    l: LocalNo,
+    inst: &Inst,
+    at: Spot,
+) -> bool
     requires closed { IsClosed (graph_of func.now.blocks) }
     requires graph { flow.now.graph ≡ edges_of func.now.blocks }
     requires moves { IsMove func.now from to }
@@ -123,7 +149,16 @@ fn entries_of(inst: &Inst) -> Option<&Entries>
 }
 
 // Whether an instruction that has the local as an operand has such a use at a place.
-fn is_inst_missed(func: &Func, flow: &Flow, behind: &[bool], from: Spot, to: Spot, l: LocalNo, inst: &Inst, at: Spot) -> bool
+fn is_inst_missed(
+    func: &Func,
+    flow: &Flow,
+    behind: &[bool],
+    from: Spot,
+    to: Spot,
+    l: LocalNo,
+    inst: &Inst,
+    at: Spot,
+) -> bool
     requires closed { IsClosed (graph_of func.now.blocks) }
     requires graph { flow.now.graph ≡ edges_of func.now.blocks }
     requires moves { IsMove func.now from to }
@@ -139,7 +174,16 @@ fn is_inst_missed(func: &Func, flow: &Flow, behind: &[bool], from: Spot, to: Spo
 }
 
 // Whether the instruction of a number, which has the local as an operand, has such a use.
-fn is_user_missed(func: &Func, flow: &Flow, behind: &[bool], from: Spot, to: Spot, l: LocalNo, inst: &Inst, i: InstNo) -> bool
+fn is_user_missed(
+    func: &Func,
+    flow: &Flow,
+    behind: &[bool],
+    from: Spot,
+    to: Spot,
+    l: LocalNo,
+    inst: &Inst,
+    i: InstNo,
+) -> bool
     requires closed { IsClosed (graph_of func.now.blocks) }
     requires graph { flow.now.graph ≡ edges_of func.now.blocks }
     requires moves { IsMove func.now from to }
@@ -159,7 +203,15 @@ fn is_user_missed(func: &Func, flow: &Flow, behind: &[bool], from: Spot, to: Spo
 }
 
 // Whether the instruction of a number has such a use.
-fn is_number_missed(func: &Func, flow: &Flow, behind: &[bool], from: Spot, to: Spot, l: LocalNo, i: InstNo) -> bool
+fn is_number_missed(
+    func: &Func,
+    flow: &Flow,
+    behind: &[bool],
+    from: Spot,
+    to: Spot,
+    l: LocalNo,
+    i: InstNo,
+) -> bool
     requires closed { IsClosed (graph_of func.now.blocks) }
     requires graph { flow.now.graph ≡ edges_of func.now.blocks }
     requires moves { IsMove func.now from to }
@@ -180,7 +232,14 @@ fn is_number_missed(func: &Func, flow: &Flow, behind: &[bool], from: Spot, to: S
 }
 
 // Whether an instruction has such a use.
-fn are_insts_missed(func: &Func, flow: &Flow, behind: &[bool], from: Spot, to: Spot, l: LocalNo) -> bool
+fn are_insts_missed(
+    func: &Func,
+    flow: &Flow,
+    behind: &[bool],
+    from: Spot,
+    to: Spot,
+    l: LocalNo,
+) -> bool
     requires closed { IsClosed (graph_of func.now.blocks) }
     requires graph { flow.now.graph ≡ edges_of func.now.blocks }
     requires moves { IsMove func.now from to }
@@ -197,7 +256,16 @@ fn are_insts_missed(func: &Func, flow: &Flow, behind: &[bool], from: Spot, to: S
 }
 
 // Whether the terminator of a block has such a use.
-fn is_term_missed(func: &Func, flow: &Flow, behind: &[bool], from: Spot, to: Spot, l: LocalNo, term: &Term, c: BlockNo) -> bool
+fn is_term_missed(
+    func: &Func,
+    flow: &Flow,
+    behind: &[bool],
+    from: Spot,
+    to: Spot,
+    l: LocalNo,
+    term: &Term,
+    c: BlockNo,
+) -> bool
     requires closed { IsClosed (graph_of func.now.blocks) }
     requires graph { flow.now.graph ≡ edges_of func.now.blocks }
     requires moves { IsMove func.now from to }
@@ -216,7 +284,15 @@ fn is_term_missed(func: &Func, flow: &Flow, behind: &[bool], from: Spot, to: Spo
 }
 
 // Whether some terminator has such a use.
-fn are_ends_missed(func: &Func, flow: &Flow, behind: &[bool], from: Spot, to: Spot, l: LocalNo, steps: &mut Steps) -> bool
+fn are_ends_missed(
+    func: &Func,
+    flow: &Flow,
+    behind: &[bool],
+    from: Spot,
+    to: Spot,
+    l: LocalNo,
+    steps: &mut Steps,
+) -> bool
     requires closed { IsClosed (graph_of func.now.blocks) }
     requires graph { flow.now.graph ≡ edges_of func.now.blocks }
     requires moves { IsMove func.now from to }
@@ -225,7 +301,16 @@ fn are_ends_missed(func: &Func, flow: &Flow, behind: &[bool], from: Spot, to: Sp
 {
     func.numbered();
     for c in 0..func.block_count() {
-        if is_term_missed(func, flow, behind, from, to, l, func.term(BlockNo(c), steps), BlockNo(c)) {
+        if is_term_missed(
+            func,
+            flow,
+            behind,
+            from,
+            to,
+            l,
+            func.term(BlockNo(c), steps),
+            BlockNo(c),
+        ) {
             return true;
         }
     }
@@ -233,7 +318,14 @@ fn are_ends_missed(func: &Func, flow: &Flow, behind: &[bool], from: Spot, to: Sp
 }
 
 /// Whether some path would come to a use of a local without passing the place to which the instruction that gives it is moved.
-pub fn is_some_missed(alloc: Global, func: &Func, flow: &Flow, from: Spot, to: Spot, l: LocalNo) -> Result<bool, NoMemory>
+pub fn is_some_missed(
+    alloc: Global,
+    func: &Func,
+    flow: &Flow,
+    from: Spot,
+    to: Spot,
+    l: LocalNo,
+) -> Result<bool, NoMemory>
     requires closed { IsClosed (graph_of func.now.blocks) }
     requires graph { flow.now.graph ≡ edges_of func.now.blocks }
     requires moves { IsMove func.now from to }
@@ -270,7 +362,13 @@ fn is_result_missed(
 
 /// Whether some path would come to a use before its definition once an instruction is moved that is no phi: to a use of its result, or to
 /// the instruction before the definition of an operand. All other uses stay behind their definitions.
-pub fn bad_in_move(alloc: Global, func: &Func, flow: &Flow, from: Spot, to: Spot) -> Result<bool, NoMemory>
+pub fn bad_in_move(
+    alloc: Global,
+    func: &Func,
+    flow: &Flow,
+    from: Spot,
+    to: Spot,
+) -> Result<bool, NoMemory>
     requires sound { IsSoundFunc func.now }
     requires graph { flow.now.graph ≡ edges_of func.now.blocks }
     requires moves { IsMove func.now from to }

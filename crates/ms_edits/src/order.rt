@@ -55,7 +55,14 @@ fn comes_without(alloc: Global, flow: &Flow, first: Spot, at: Spot) -> Result<bo
 }
 
 // Whether some path comes to a place before the definition of a value, in the function that is looked at.
-fn is_late(alloc: Global, func: &Func, flow: &Flow, after: After, val: Val, at: Spot) -> Result<bool, NoMemory>
+fn is_late(
+    alloc: Global,
+    func: &Func,
+    flow: &Flow,
+    after: After,
+    val: Val,
+    at: Spot,
+) -> Result<bool, NoMemory>
     requires closed { IsClosed (graph_of func.now.blocks) }
     requires graph { flow.now.graph ≡ edges_of func.now.blocks }
     requires after { CanBeAfter func.now after }
@@ -102,7 +109,14 @@ fn is_late_at(
 }
 
 /// Whether some path comes to a place before the definition of an operand of an instruction, in the function that is looked at.
-pub fn has_late(alloc: Global, func: &Func, flow: &Flow, after: After, inst: &Inst, at: Spot) -> Result<bool, NoMemory>
+pub fn has_late(
+    alloc: Global,
+    func: &Func,
+    flow: &Flow,
+    after: After,
+    inst: &Inst,
+    at: Spot,
+) -> Result<bool, NoMemory>
     requires closed { IsClosed (graph_of func.now.blocks) }
     requires graph { flow.now.graph ≡ edges_of func.now.blocks }
     requires after { CanBeAfter func.now after }
@@ -138,7 +152,17 @@ fn bad_in_insert(
     ensures { IfOk result (λ t. IsTrue t ↔ HasBadOrder func.now (Insert block place inst.now name.now)) }
 {
     func.numbered();
-    has_late(alloc, func, flow, After::Same, inst, Spot { block: block.0, place })
+    has_late(
+        alloc,
+        func,
+        flow,
+        After::Same,
+        inst,
+        Spot {
+            block: block.0,
+            place,
+        },
+    )
 }
 
 /// Whether some path would come to a use before its definition.
@@ -166,8 +190,14 @@ pub fn bad_order(alloc: Global, func: &Func, flow: &Flow, edit: &Edit) -> Result
             alloc,
             func,
             flow,
-            Spot { block: block.0, place: *place },
-            Spot { block: to_block.0, place: *to_place },
+            Spot {
+                block: block.0,
+                place: *place,
+            },
+            Spot {
+                block: to_block.0,
+                place: *to_place,
+            },
         ),
         Edit::Remove { .. } | Edit::Unlink { .. } => Ok(false),
     }

@@ -72,11 +72,7 @@ fn place_with(b: BlockNo, place: u32, c: BlockNo, k: u32) -> u32
     ensures before { b.0 ≡ c.0 → k < place → result ≡ k }
     ensures other { (b.0 ≡ c.0 → ⊥) → result ≡ k }
 {
-    if b.0 == c.0 && place <= k {
-        k + 1
-    } else {
-        k
-    }
+    if b.0 == c.0 && place <= k { k + 1 } else { k }
 }
 
 // Whether none can be put at place k of block c once the instruction at a place of block b is taken out.

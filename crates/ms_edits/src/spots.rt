@@ -69,7 +69,10 @@ fn moved_spot(func: &Func, from: Spot, to: Spot, at: Spot) -> Spot
     }
     let left = place_without(from, at);
     let place = place_with(to, at.block, left, func.count(BlockNo(at.block)));
-    Spot { block: at.block, place }
+    Spot {
+        block: at.block,
+        place,
+    }
 }
 
 /// Where what stands at a place stands in the function that is looked at.

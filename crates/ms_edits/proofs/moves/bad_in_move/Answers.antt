@@ -1,4 +1,4 @@
-use Rattle.std.proofs.Common.{refl, inl, inr}
+use Rattle.std.proofs.Common.{refl}
 use Rattle.std.specs.Prelude.{IsTrue, ◌↔◌}
 use Rattle.std.proofs.lemmas.Bool.{iff_false}
 use Rattle.std.proofs.lemmas.Result.{IfOk-weaker}
@@ -19,7 +19,7 @@ returns-else-branch c =
     let now = func_after c.args.func.now (Moved c.args.from c.args.to) in
     IfOk-weaker c.is_result_missed.result (λ t. IsTrue t ↔ IsGivenMissed now.blocks c.args.to c.in-Some.node.now.result) (λ t. IsTrue t ↔ IsBadAfter now)
     (λ t told. rest_is_bad c.args.func.now c.numbered.ensures c.args.from c.args.to c.requires.moves c.requires.sound c.requires.plain c.in-Some.node.now t c.in-Some.ensures
-        (iff_false c.in_ok-has_late-in-Some.ensures c.if-branch.false) told)
+    (iff_false c.in_ok-has_late-in-Some.ensures c.if-branch.false) told)
     c.is_result_missed.ensures
 
 pub returns-in-None : goal.returns-in-None

@@ -24,7 +24,7 @@ returns-in-Some-place_of c =
     let k = c.args.at.place in
     IfOk-weaker c.comes_without.result (λ t. IsTrue t ↔ IsMissed h r.block r.place a k) (λ t. IsTrue t ↔ IsLate (func_after f c.args.after) c.args.val a k)
     (λ t told. found_late (λ blocks e p. c.same_paths.ensures.paths blocks e p) f c.args.after h c.args.val c.in-Local.l c.in-Some.i.0 at r a k t c.requires.graph c.numbered.ensures c.requires.after c.in-Local.is
-        c.in-Some.ensures.found c.in-Some-place_of.ensures c.spot_after-first.ensures.stands told)
+    c.in-Some.ensures.found c.in-Some-place_of.ensures c.spot_after-first.ensures.stands told)
     c.comes_without.ensures
 
 pub returns-in-None-place_of : goal.returns-in-None-place_of

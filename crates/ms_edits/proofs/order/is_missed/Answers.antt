@@ -1,4 +1,4 @@
-use Rattle.std.proofs.Common.{leb, sym, subst, arith}
+use Rattle.std.proofs.Common.{leb, sym, subst}
 use Rattle.std.specs.Prelude.{IsTrue, ◌↔◌}
 use Rattle.std.proofs.lemmas.Bool.{leb-true, le-leb}
 use Rattle.ms_paths.specs.Flow.{IsOnEveryPath}
