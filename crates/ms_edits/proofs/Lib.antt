@@ -1,0 +1,11 @@
+pub mod ListLemmas
+pub mod NameLemmas
+pub mod PathLemmas
+pub mod PlaceLemmas
+pub mod UnlinkLemmas
+pub mod OrderLemmas
+pub mod InsertLemmas
+pub mod AcceptLemmas
+pub mod UseLemmas
+pub mod MoveLemmas
+pub mod MissedLemmas
