@@ -30,7 +30,7 @@ fn is_end_missed(flow: &Flow, behind: &[bool], first: Spot, c: u32) -> bool
     requires behind { AreBehind flow.now.graph first.block behind.now }
     ensures { (k : ℕ) → (first.block ≡ c → first.place < k) → IsTrue result ↔ IsMissed flow.now.graph first.block first.place c k }
 {
-    ms_flow::order_told();
+    ms_flow::laws::order_told();
     if c >= flow.block_count() {
         return false;
     }
@@ -66,7 +66,7 @@ fn is_entry_missed(
     requires behind { AreBehind flow.now.graph to.block behind.now }
     ensures { IsTrue result ↔ AtPlace (map (entry_use (func_after func.now (Moved from to)).blocks) entries.now) (IsUseMissed (func_after func.now (Moved from to)).blocks to l) k }
 {
-    ms_flow::same_paths();
+    ms_flow::laws::same_paths();
     func.numbered();
     match entries.get(k) {
         Some(entry) => {
@@ -123,7 +123,7 @@ fn is_operand_missed(
     requires has { InstHas inst.now l }
     ensures { IsTrue result ↔ HasIn (map (used_at at.block at.place) (operands_of inst.now)) (IsUseMissed (func_after func.now (Moved from to)).blocks to l) }
 {
-    ms_flow::same_paths();
+    ms_flow::laws::same_paths();
     func.numbered();
     is_missed(flow, behind, to, at)
 }
@@ -274,7 +274,7 @@ fn is_term_missed(
     requires term { term.now ≡ (slice_index_or func.now.blocks c.0 no_block).term }
     ensures { IsTrue result ↔ EndMisses (func_after func.now (Moved from to)).blocks to l c.0 }
 {
-    ms_flow::same_paths();
+    ms_flow::laws::same_paths();
     func.numbered();
     if is_term_operand(func, term, l) {
         is_end_missed(flow, behind, to, c.0)
@@ -331,7 +331,7 @@ pub fn is_some_missed(
     requires moves { IsMove func.now from to }
     ensures { IfOk result (λ t. IsTrue t ↔ IsSomeMissed (func_after func.now (Moved from to)).blocks to l) }
 {
-    ms_flow::same_paths();
+    ms_flow::laws::same_paths();
     let behind = flow.behind(alloc, BlockNo(to.block))?;
     let mut steps = Steps::new(alloc)?;
     if are_insts_missed(func, flow, behind.as_slice(), from, to, l) {

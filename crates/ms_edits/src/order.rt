@@ -33,7 +33,7 @@ pub fn is_missed(flow: &Flow, behind: &[bool], first: Spot, at: Spot) -> bool
     requires there { at.block < length flow.now.graph }
     ensures { IsTrue result ↔ IsMissed flow.now.graph first.block first.place at.block at.place }
 {
-    ms_flow::order_told();
+    ms_flow::laws::order_told();
     if !flow.reached(BlockNo(at.block)) {
         return false;
     }
@@ -69,7 +69,7 @@ fn is_late(
     requires there { at.block < length func.now.blocks }
     ensures { IfOk result (λ t. IsTrue t ↔ IsLate (func_after func.now after) val at.block at.place) }
 {
-    ms_flow::same_paths();
+    ms_flow::laws::same_paths();
     func.numbered();
     match val {
         Val::Local(l) => match func.def_of(l) {

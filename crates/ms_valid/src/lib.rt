@@ -36,7 +36,8 @@
 //! read and accepted the crates above say more: its functions are sound (`ms_accepted`), its allocas stand in first blocks
 //! (`ms_output::laws::accepted_begin_once`), its printed text, where it is shorter than 10^9 bytes, is read and accepted as the same module (`ms_again`).
 //!
-//! **What a caller may not assume.** `accept` asks for a draft whose lines stand where they may, as `ms_read::read_module` gives it. It does not look
+//! **What a caller may not assume.** Whether an edit of one function is accepted is asked of `ms_edits::accept_edit`, which this crate
+//! gives on. `accept` asks for a draft whose lines stand where they may, as `ms_read::read_module` gives it. It does not look
 //! at limits, which were looked at there, nor at what kept text says, attributes apart that have a meaning. `Memory` says nothing of the draft. That
 //! a module is accepted does not say that its runs are not wrong.
 #![tactic(auto)]
@@ -58,3 +59,4 @@ mod view;
 
 pub use fault::ValidFault;
 pub use module::accept;
+pub use ms_edits::accept_edit;
