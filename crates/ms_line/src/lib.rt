@@ -33,7 +33,7 @@ mod sort;
 pub use fault::LineFault;
 pub use ms_grammar::{
     Head, Line, RawArg, RawArgs, RawEntries, RawEntry, RawInst, RawTerm, RawVal, effects_by,
-    keeps_by, one_line, write_line,
+    keeps_by, write_line,
 };
 pub use read::{read_line, sort_of, sort_of_line};
 pub use sort::Sort;
