@@ -9,7 +9,6 @@ use crate::measure::is_short_line;
 use crate::said::said;
 use crate::sort::Sort;
 use ms_grammar::{Line, RawInst};
-use ms_reread::laws::said_again;
 use std::alloc::Global;
 
 /// What a line says. The parameters of a declared function lose their names. What is printed for the
@@ -26,7 +25,7 @@ pub fn read_line(alloc: Global, line: &[u8]) -> Result<Line, LineFault>
     ensures again { IfOk result (λ l. IsReadAgain l) }
     ensures err { IfErr result (λ fault. IsLineCause line.now fault) }
 {
-    said_again();
+    ms_reread::laws::said_again();
     match said(alloc, line) {
         Ok(Said::Whole(found)) => {
             if is_short_line(&found) {
