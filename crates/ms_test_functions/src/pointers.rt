@@ -11,15 +11,14 @@ ghost use Rattle.ms_alias.specs.Tables.{IsAliasOf};
 use crate::graph::{
     NO_EFFECTS, P, alloca, cut, flow_of, form_of, function, load, put, store, take,
 };
-use crate::starting::{expect_near, start};
-use ms_alias::{Alias, Loc, Root, tables_kept};
+use crate::starting::expect_near;
+use ms_alias::{Alias, Loc, Root};
 use ms_flow::Flow;
 use ms_form::{Access, Form};
 use ms_ir::{
     Arg, BlockNo, Effects, Entry, Func, FuncNo, GlobalNo, Inst, InstNo, Items, LocalNo, Name,
     Steps, Ty, Val,
 };
-use ms_session::Session;
 use ms_walk::walk;
 use std::alloc::Global;
 use std::process::Abort;
@@ -510,7 +509,7 @@ fn put_call(
     ensures tables { IsAliasOf f.new alias.new }
     ensures room { f.old.spare ≤ f.new.spare + 1 }
 {
-    tables_kept();
+    ms_alias::laws::tables_kept();
     assert!(rt; f.block_count() > 0);
     assert!(rt; f.made() < u32::MAX);
     let place = f.count(BlockNo(0));
@@ -549,7 +548,7 @@ fn take_noted(rt: &impl Abort, f: &mut Func, alias: &mut Alias, i: InstNo) -> bo
     ensures tables { IsAliasOf f.new alias.new }
     ensures room { f.old.spare ≤ f.new.spare }
 {
-    tables_kept();
+    ms_alias::laws::tables_kept();
     f.numbered();
     expect_idle_at(rt, f, i);
     let changed = alias.note_take(f, i);
@@ -708,7 +707,7 @@ fn cut_back(rt: &impl Abort, alloc: Global, f: &mut Func, alias: &mut Alias)
     requires { IsAliasOf f.old alias.old }
     ensures { IsAliasOf f.new alias.new }
 {
-    tables_kept();
+    ms_alias::laws::tables_kept();
     let mut steps = Steps::new(alloc).ok().expect(rt, "memory");
     cut(rt, f, BlockNo(1), 0, &mut steps);
     let flow = flow_of(rt, alloc, f);
@@ -741,48 +740,50 @@ fn stored(rt: &impl Abort, alloc: Global) -> Func {
     f
 }
 
-// The clobber of a location before an instruction, by the walker and by the session.
+// The clobber of a location before an instruction.
 fn clobber(
     rt: &impl Abort,
     alloc: Global,
+    f: &Func,
     flow: &Flow,
     form: &Form,
-    session: &mut Session,
+    alias: &Alias,
     i: InstNo,
     loc: &Loc,
-) -> (Access, Access)
-    requires graph { flow.now.graph ≡ edges_of session.old.blocks }
-    requires closed { IsClosed (graph_of session.old.blocks) }
+) -> Access
+    requires graph { flow.now.graph ≡ edges_of f.now.blocks }
+    requires closed { IsClosed (graph_of f.now.blocks) }
     requires reducible { IsReducible flow.now.graph }
-    requires form { IsFormOf session.old form.now }
-    ensures { session.new ≡ session.old }
+    requires form { IsFormOf f.now form.now }
+    requires alias { IsAliasOf f.now alias.now }
 {
-    let (b, _) = session.func().place_of(i).expect(rt, "a place");
-    assert!(rt; session.reached(b));
-    let found = session.clobber(i, loc).ok().expect(rt, "memory");
-    let f = session.func();
-    let walked = walk(alloc, f, flow, form, session.alias(), i, loc);
-    (found.access, walked.ok().expect(rt, "memory"))
+    ms_flow::laws::same_paths();
+    let (b, _) = f.place_of(i).expect(rt, "a place");
+    assert!(rt; b.0 < flow.block_count());
+    assert!(rt; flow.reached(b));
+    let found = walk(alloc, f, flow, form, alias, i, loc);
+    found.ok().expect(rt, "memory")
 }
 
 fn clobbers(
     rt: &impl Abort,
     alloc: Global,
+    f: &Func,
     flow: &Flow,
     form: &Form,
-    session: &mut Session,
+    alias: &Alias,
     rows: &[(u32, Loc, Access)],
 )
-    requires graph { flow.now.graph ≡ edges_of session.old.blocks }
-    requires closed { IsClosed (graph_of session.old.blocks) }
+    requires graph { flow.now.graph ≡ edges_of f.now.blocks }
+    requires closed { IsClosed (graph_of f.now.blocks) }
     requires reducible { IsReducible flow.now.graph }
-    requires form { IsFormOf session.old form.now }
+    requires form { IsFormOf f.now form.now }
+    requires alias { IsAliasOf f.now alias.now }
 {
     for k in 0..rows.len() {
         let (i, loc, access) = rows[k];
-        let (found, walked) = clobber(rt, alloc, flow, form, session, InstNo(i), &loc);
+        let found = clobber(rt, alloc, f, flow, form, alias, InstNo(i), &loc);
         assert!(rt; found == access, "{k}");
-        assert!(rt; walked == access, "{k}");
     }
 }
 
@@ -792,7 +793,7 @@ fn stores_elsewhere_are_passed(rt: HostRuntime) {
     let f = stored(&rt, alloc);
     let flow = flow_of(&rt, alloc, &f);
     let form = form_of(&rt, alloc, &f, &flow);
-    let mut session = start(&rt, alloc, f);
+    let alias = pointers(&rt, alloc, &f, &flow);
     let rows = [
         (2, bytes(A, 0, 4), Access::Entry),
         (4, bytes(A, 0, 4), Access::Of(InstNo(2))),
@@ -807,5 +808,5 @@ fn stores_elsewhere_are_passed(rt: HostRuntime) {
         (8, bytes(A, 3, 1), Access::Of(InstNo(2))),
         (8, bytes(B, 0, 4), Access::Of(InstNo(5))),
     ];
-    clobbers(&rt, alloc, &flow, &form, &mut session, &rows);
+    clobbers(&rt, alloc, &f, &flow, &form, &alias, &rows);
 }

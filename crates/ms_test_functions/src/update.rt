@@ -9,7 +9,7 @@ use crate::graph::{P, flow_of, form_of, function, load, put, store, take};
 use ms_flow::Flow;
 use ms_form::{Access, Form};
 use ms_ir::{BlockNo, Func, Inst, InstNo, Name, Steps, Val};
-use ms_update::{insert, one_cost, remove, shift, without_told};
+use ms_update::{insert, remove, shift};
 use std::alloc::Global;
 use std::process::Abort;
 
@@ -87,7 +87,7 @@ fn put_with(
     requires { IsTogether f.old flow.now form.old }
     ensures { IsTogether f.new flow.now form.new }
 {
-    without_told();
+    ms_update::laws::without_told();
     make_room(rt, f, flow, form);
     f.numbered();
     assert!(rt; f.made() < u32::MAX);
@@ -111,7 +111,7 @@ fn take_with(
     requires { IsTogether f.old flow.now form.old }
     ensures { IsTogether f.new flow.now form.new }
 {
-    without_told();
+    ms_update::laws::without_told();
     f.numbered();
     assert!(rt; f.place_of(i).is_some());
     remove(form, f, flow, i, steps);
@@ -131,7 +131,7 @@ fn shift_with(
     requires { IsTogether f.old flow.now form.old }
     ensures { IsTogether f.new flow.now form.new }
 {
-    without_told();
+    ms_update::laws::without_told();
     assert!(rt; b.0 < f.block_count());
     assert!(rt; f.place_of(i).is_some());
     shift(form, f, flow, i, b, 0, steps);
@@ -315,7 +315,7 @@ fn put_and_take_everywhere(
 #[test]
 fn every_insert(rt: HostRuntime) {
     let alloc = rt.alloc();
-    one_cost();
+    ms_update::laws::one_cost();
     let mut f = small(&rt, alloc);
     let flow = flow_of(&rt, alloc, &f);
     let mut form = begin(&rt, alloc, &f, &flow);
