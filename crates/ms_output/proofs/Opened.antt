@@ -33,4 +33,4 @@ near_of draft m small a n f e =
     subst AreOffsetsNear r.2 (func_near (scope_in a.items m whole r.0) (whole.spare r.0.head.name) r.0 lines)
 
 pub open_of : (draft : List (ℕ × Line)) (m : ModuleState) → AreSmall draft → ((n : ℕ) (f : FuncState) → slice_get m.bodies n ≡ Some (Some f) → IsSoundFunc f) → IsAccepted draft m → AreOpen m
-open_of draft m small sound a n f e = let own = sound n f e in (own.closed, own.reducible, near_of draft m small a n f e)
+open_of draft m small sound a n f e = (sound n f e, near_of draft m small a n f e)

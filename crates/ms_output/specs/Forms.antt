@@ -1,8 +1,7 @@
 -- What is written for a module: the printed forms of its functions, and its text.
 use Rattle.std.specs.Prelude.{◌≡◌, ℕ, zero, suc, List, [], ◌∷◌, ◌++◌, Some, slice_get, if◌then◌else◌, codes}
-use Rattle.ms_paths.specs.Flow.{IsClosed, IsReducible}
 use Rattle.ms_ir.specs.Func.{FuncState}
-use Rattle.ms_ir.specs.Graph.{graph_of}
+use Rattle.ms_ir.specs.SoundFunc.{IsSoundFunc}
 use Rattle.ms_ir.specs.Module.{ModuleState}
 use Rattle.ms_ir.specs.Symbols.{NamesState}
 use Rattle.ms_print.specs.Text.{module_text}
@@ -49,7 +48,7 @@ pub record IsWrittenOf (wanted : Wanted) (m : ModuleState) (text : List ℕ) : T
 
 -- each function with a body may be opened
 abbrev pub AreOpen : ModuleState → Type 0
-AreOpen m = (n : ℕ) (f : FuncState) → slice_get m.bodies n ≡ Some (Some f) → IsClosed (graph_of f.blocks) × IsReducible (graph_of f.blocks) × AreOffsetsNear f
+AreOpen m = (n : ℕ) (f : FuncState) → slice_get m.bodies n ≡ Some (Some f) → IsSoundFunc f × AreOffsetsNear f
 
 -- each instruction of a draft is within its limits
 abbrev pub IsSmallAt : ℕ × Line → Type 0

@@ -1,7 +1,6 @@
 // What is written for a module: the printed forms of its functions, and its text.
 ghost use Rattle.std.specs.Prelude.{◌≡◌, ◌++◌, List, ℕ, IfOk, OnOk};
-ghost use Rattle.ms_paths.specs.Flow.{IsClosed, IsReducible};
-ghost use Rattle.ms_ir.specs.Graph.{graph_of};
+ghost use Rattle.ms_ir.specs.SoundFunc.{IsSoundFunc};
 ghost use Rattle.ms_ir.specs.Module.{body_of};
 ghost use Rattle.ms_alias.specs.Offsets.{AreOffsetsNear};
 ghost use Rattle.ms_valid.specs.Faults.{body_there, bodies_there};
@@ -74,8 +73,7 @@ fn push_func(
     names: &Names,
     prints: usize,
 ) -> Result<Func, NoMemory>
-    requires closed { IsClosed (graph_of func.blocks) }
-    requires reducible { IsReducible (graph_of func.blocks) }
+    requires sound { IsSoundFunc func }
     requires near { AreOffsetsNear func }
     ensures form { IfOk result (λ _. (form : List ℕ) × IsForm names.now func form × (all.new.items ≡ all.old.items ++ times prints form)) }
     ensures same { IfOk result (λ f. f ≡ func) }

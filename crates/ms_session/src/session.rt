@@ -44,13 +44,14 @@ impl Model for Session {
     ghost use Rattle.ms_flow.specs.Table.{edges_of};
     ghost use Rattle.ms_build.specs.Built.{IsFormOf};
     ghost use Rattle.ms_ir.specs.Graph.{graph_of};
+    ghost use Rattle.ms_ir.specs.SoundFunc.{IsSoundFunc};
     ghost use Rattle.ms_alias.specs.Tables.{IsAliasOf};
 
     ghost Value = { FuncState };
 
     ghost view = { λ s. s.func };
 
-    ghost invariant = { λ s. (s.flow.graph ≡ edges_of s.func.blocks) × IsClosed s.flow.graph × IsReducible s.flow.graph × IsFormOf s.func s.form × IsClosed (graph_of s.func.blocks) × IsAliasOf s.func s.alias };
+    ghost invariant = { λ s. (s.flow.graph ≡ edges_of s.func.blocks) × IsClosed s.flow.graph × IsReducible s.flow.graph × IsFormOf s.func s.form × IsClosed (graph_of s.func.blocks) × IsAliasOf s.func s.alias × IsSoundFunc s.func };
 }
 
 impl Session {
@@ -64,11 +65,9 @@ impl Session {
     ghost use Rattle.ms_walk.specs.Clobber.{IsClobber};
     ghost use Rattle.ms_session.specs.Annotated.{IsAnnotated, HasUses};
 
-    /// Opens a function whose terminators name its own blocks, whose loops are reducible, and in which no getelementptr passes the
-    /// greatest offset. The function is dropped on `NoMemory`.
+    /// Opens a sound function in which no getelementptr passes the greatest offset. The function is dropped on `NoMemory`.
     pub fn start(alloc: Global, func: Func) -> Result<Session, NoMemory>
-        requires closed { IsClosed (graph_of func.blocks) }
-        requires reducible { IsReducible (graph_of func.blocks) }
+        requires sound { IsSoundFunc func }
         requires near { AreOffsetsNear func }
         ensures { IfOk result (λ s. s ≡ func) }
     {
@@ -105,12 +104,12 @@ impl Session {
         Ok(Printed { text, walks })
     }
 
-    /// The clobber of a location before an instruction of a reached block: the last one on every path that may write it. In a sound function
-    /// it holds on every run: from when it took place last up to the instruction, no step writes a byte of the location.
+    /// The clobber of a location before an instruction of a reached block: the last one on every path that may write it.
+    /// It holds on every run: from when it took place last up to the instruction, no step writes a byte of the location.
     pub fn clobber(&mut self, i: InstNo, loc: &Loc) -> Result<Found, NoMemory>
         requires { StandsReached self.old.blocks i.0 }
         ensures clobber { IfOk result (λ found. IsClobber self.old i.0 loc.now (event_of found.access)) }
-        ensures sound { IsSoundFunc self.old → IfOk result (λ found. IsSound self.old i.0 loc.now (event_of found.access)) }
+        ensures sound { IfOk result (λ found. IsSound self.old i.0 loc.now (event_of found.access)) }
         ensures walked { IfOk result (λ found. found.walked ≡ true) }
         ensures same { self.new ≡ self.old }
     {

@@ -168,8 +168,8 @@ fn expect_targets(rt: &impl Abort, term: &Term, blocks: u32)
     }
 }
 
-/// Expects a block, and that terminators name blocks of the function.
-pub fn expect_closed(rt: &impl Abort, alloc: Global, f: &Func)
+// Expects a block, and that terminators name blocks of the function.
+fn expect_closed(rt: &impl Abort, alloc: Global, f: &Func)
     ensures { IsClosed (graph_of f.now.blocks) }
 {
     let mut steps = Steps::new(alloc).ok().expect(rt, "memory");
@@ -188,8 +188,8 @@ pub fn flow_of(rt: &impl Abort, alloc: Global, f: &Func) -> Flow
     Flow::of(alloc, f).ok().expect(rt, "memory")
 }
 
-/// Expects loops to be reducible.
-pub fn expect_reducible(rt: &impl Abort, flow: &Flow)
+// Expects loops to be reducible.
+fn expect_reducible(rt: &impl Abort, flow: &Flow)
     ensures { IsReducible flow.now.graph }
 {
     assert!(rt; flow.reducible());

@@ -1,4 +1,4 @@
-//! Tests of functions: instructions and blocks, flow graphs, memory forms, the search in them, edits of them, pointers, sessions, values in
+//! Tests of functions: instructions and blocks, flow graphs, memory forms, the search in them, edits of them, pointers, clobbers, values in
 //! runs. They stand apart, since a crate with tests is proved twice.
 #![tactic(auto)]
 
@@ -18,8 +18,6 @@ mod graph;
 mod modules;
 #[cfg(test)]
 mod pointers;
-#[cfg(test)]
-mod session;
 #[cfg(test)]
 mod starting;
 #[cfg(test)]

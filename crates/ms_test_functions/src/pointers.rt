@@ -11,7 +11,7 @@ ghost use Rattle.ms_alias.specs.Tables.{IsAliasOf};
 use crate::graph::{
     NO_EFFECTS, P, alloca, cut, flow_of, form_of, function, load, put, store, take,
 };
-use crate::starting::{expect_near, start};
+use crate::starting::expect_near;
 use ms_alias::{Alias, Loc, Root};
 use ms_flow::Flow;
 use ms_form::{Access, Form};
@@ -19,7 +19,6 @@ use ms_ir::{
     Arg, BlockNo, Effects, Entry, Func, FuncNo, GlobalNo, IndexTerm, Inst, InstNo, Items, LocalNo,
     Name, Steps, Ty, Val,
 };
-use ms_session::Session;
 use ms_walk::walk;
 use std::alloc::Global;
 use std::process::Abort;
@@ -812,48 +811,50 @@ fn stored(rt: &impl Abort, alloc: Global) -> Func {
     f
 }
 
-// The clobber of a location before an instruction, by the walker and by the session.
+// The clobber of a location before an instruction.
 fn clobber(
     rt: &impl Abort,
     alloc: Global,
+    f: &Func,
     flow: &Flow,
     form: &Form,
-    session: &mut Session,
+    alias: &Alias,
     i: InstNo,
     loc: &Loc,
-) -> (Access, Access)
-    requires graph { flow.now.graph ≡ edges_of session.old.blocks }
-    requires closed { IsClosed (graph_of session.old.blocks) }
+) -> Access
+    requires graph { flow.now.graph ≡ edges_of f.now.blocks }
+    requires closed { IsClosed (graph_of f.now.blocks) }
     requires reducible { IsReducible flow.now.graph }
-    requires form { IsFormOf session.old form.now }
-    ensures { session.new ≡ session.old }
+    requires form { IsFormOf f.now form.now }
+    requires alias { IsAliasOf f.now alias.now }
 {
-    let (b, _) = session.func().place_of(i).expect(rt, "a place");
-    assert!(rt; session.reached(b));
-    let found = session.clobber(i, loc).ok().expect(rt, "memory");
-    let f = session.func();
-    let walked = walk(alloc, f, flow, form, session.alias(), i, loc);
-    (found.access, walked.ok().expect(rt, "memory"))
+    ms_flow::laws::same_paths();
+    let (b, _) = f.place_of(i).expect(rt, "a place");
+    assert!(rt; b.0 < flow.block_count());
+    assert!(rt; flow.reached(b));
+    let found = walk(alloc, f, flow, form, alias, i, loc);
+    found.ok().expect(rt, "memory")
 }
 
 fn clobbers(
     rt: &impl Abort,
     alloc: Global,
+    f: &Func,
     flow: &Flow,
     form: &Form,
-    session: &mut Session,
+    alias: &Alias,
     rows: &[(u32, Loc, Access)],
 )
-    requires graph { flow.now.graph ≡ edges_of session.old.blocks }
-    requires closed { IsClosed (graph_of session.old.blocks) }
+    requires graph { flow.now.graph ≡ edges_of f.now.blocks }
+    requires closed { IsClosed (graph_of f.now.blocks) }
     requires reducible { IsReducible flow.now.graph }
-    requires form { IsFormOf session.old form.now }
+    requires form { IsFormOf f.now form.now }
+    requires alias { IsAliasOf f.now alias.now }
 {
     for k in 0..rows.len() {
         let (i, loc, access) = rows[k];
-        let (found, walked) = clobber(rt, alloc, flow, form, session, InstNo(i), &loc);
+        let found = clobber(rt, alloc, f, flow, form, alias, InstNo(i), &loc);
         assert!(rt; found == access, "{k}");
-        assert!(rt; walked == access, "{k}");
     }
 }
 
@@ -863,7 +864,7 @@ fn stores_elsewhere_are_passed(rt: HostRuntime) {
     let f = stored(&rt, alloc);
     let flow = flow_of(&rt, alloc, &f);
     let form = form_of(&rt, alloc, &f, &flow);
-    let mut session = start(&rt, alloc, f);
+    let alias = pointers(&rt, alloc, &f, &flow);
     let rows = [
         (2, bytes(A, 0, 4), Access::Entry),
         (4, bytes(A, 0, 4), Access::Of(InstNo(2))),
@@ -878,5 +879,5 @@ fn stores_elsewhere_are_passed(rt: HostRuntime) {
         (8, bytes(A, 3, 1), Access::Of(InstNo(2))),
         (8, bytes(B, 0, 4), Access::Of(InstNo(5))),
     ];
-    clobbers(&rt, alloc, &flow, &form, &mut session, &rows);
+    clobbers(&rt, alloc, &f, &flow, &form, &alias, &rows);
 }

@@ -1,15 +1,10 @@
-// Sessions over functions, with what they ask of a function found out.
+// What the pointers of a function ask of it, found out.
 ghost use Rattle.std.specs.Prelude.{◌≡◌, ℕ, Some};
-ghost use Rattle.ms_paths.specs.Flow.{IsReducible};
 ghost use Rattle.ms_ir.specs.Func.{Placed, IsAt};
-ghost use Rattle.ms_ir.specs.Graph.{graph_of};
 ghost use Rattle.ms_alias.specs.Roots.{Step, step_in};
 ghost use Rattle.ms_alias.specs.Offsets.{IsNear, greatest_offset, AreOffsetsNear};
 
-use crate::graph::{expect_closed, expect_reducible, flow_of};
 use ms_ir::{Func, Inst, InstNo};
-use ms_session::Session;
-use std::alloc::Global;
 use std::process::Abort;
 
 // Expects a getelementptr's offset to pass no limit.
@@ -40,23 +35,4 @@ pub fn expect_near(rt: &impl Abort, f: &Func)
     for i in 0..f.made() {
         expect_near_at(rt, f, InstNo(i));
     }
-}
-
-// Expects loops to be reducible.
-fn expect_loops(rt: &impl Abort, alloc: Global, f: &Func)
-    ensures { IsReducible (graph_of f.now.blocks) }
-{
-    ms_flow::laws::same_paths();
-    let flow = flow_of(rt, alloc, f);
-    expect_reducible(rt, &flow);
-}
-
-/// A session over a function.
-pub fn start(rt: &impl Abort, alloc: Global, f: Func) -> Session
-    ensures { result ≡ f }
-{
-    expect_closed(rt, alloc, &f);
-    expect_loops(rt, alloc, &f);
-    expect_near(rt, &f);
-    Session::start(alloc, f).ok().expect(rt, "memory")
 }

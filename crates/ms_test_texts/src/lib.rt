@@ -25,6 +25,8 @@ mod parts;
 #[cfg(test)]
 mod printing;
 #[cfg(test)]
+mod sessions;
+#[cfg(test)]
 mod sorts;
 #[cfg(test)]
 mod tokens;

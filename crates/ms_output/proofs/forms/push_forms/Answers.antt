@@ -4,20 +4,15 @@ use Rattle.ms_valid.proofs.BodyLemmas.{body_found}
 use Rattle.ms_output.proofs.Taken.{set_there, put_back, none_taken}
 use Rattle.ms_output.proofs.forms.push_forms.Goals as goal
 
-pub push_func-requires-clause-closed : goal.push_func-requires-clause-closed
-push_func-requires-clause-closed c =
+pub push_func-requires-clause-sound : goal.push_func-requires-clause-sound
+push_func-requires-clause-sound c =
     let m = c.args.module.now in
     (c.requires c.args.f.0 c.in-Some.func (body_found (slice_get m.bodies c.args.f.0) c.in-Some.func c.in-Some.ensures.body)).0
-
-pub push_func-requires-clause-reducible : goal.push_func-requires-clause-reducible
-push_func-requires-clause-reducible c =
-    let m = c.args.module.now in
-    (c.requires c.args.f.0 c.in-Some.func (body_found (slice_get m.bodies c.args.f.0) c.in-Some.func c.in-Some.ensures.body)).1
 
 pub push_func-requires-clause-near : goal.push_func-requires-clause-near
 push_func-requires-clause-near c =
     let m = c.args.module.now in
-    (c.requires c.args.f.0 c.in-Some.func (body_found (slice_get m.bodies c.args.f.0) c.in-Some.func c.in-Some.ensures.body)).2
+    (c.requires c.args.f.0 c.in-Some.func (body_found (slice_get m.bodies c.args.f.0) c.in-Some.func c.in-Some.ensures.body)).1
 
 pub put_func-requires-clause-defined : goal.put_func-requires-clause-defined
 put_func-requires-clause-defined c =
