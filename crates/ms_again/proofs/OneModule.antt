@@ -1,5 +1,5 @@
 -- A draft is accepted as one module, but for the room of its functions.
-use Rattle.std.proofs.Common.{◌≡◌, ℕ, Bool, List, [], ◌∷◌, ◌++◌, Option, Some, None, map, refl, sym, ap, subst, ◌∙◌}
+use Rattle.std.proofs.Common.{◌≡◌, inl, inr, ℕ, Bool, List, [], ◌∷◌, ◌++◌, Option, Some, None, map, refl, sym, ap, subst, ◌∙◌}
 use Rattle.std.specs.List.{flat_map}
 use Rattle.std.specs.Option.{option_map}
 use Rattle.std.proofs.lemmas.List.{map-append}
@@ -18,7 +18,10 @@ use Rattle.ms_resolve.specs.Scope.{Scope, func_of}
 use Rattle.ms_resolve.specs.Module.{groups_of, bodies_in, scope_of, module_of}
 use Rattle.ms_resolve.specs.Draft.{symbols_after, no_symbols}
 use Rattle.ms_resolve.specs.Build.{bare, bare_module, built}
-use Rattle.ms_resolve.proofs.ModuleFacts.{built_is}
+use Rattle.ms_names.specs.Faults.{small, again, inside}
+use Rattle.ms_names.proofs.Members.{among_in}
+use Rattle.ms_resolve.specs.Cause.{NoNameFault}
+use Rattle.ms_resolve.proofs.ModuleFacts.{AreMadeFine, built_is}
 use Rattle.ms_valid.specs.Cause.{IsAccepted}
 use Rattle.ms_again.specs.Same.{plain_func, plain_module, IsSameModule}
 
@@ -50,6 +53,10 @@ bodies_bare scope spare (plain n line ∷ rest) =
 bodies_bare scope spare (body f ∷ rest) =
     ap (λ (bs : List (Option FuncState)). Some (func_of (scope f) 0 f) ∷ bs) (bodies_bare scope spare rest)
 
+-- where lines have no fault in their names, no function makes a name twice
+none_made : (items : List ItemLines) → NoNameFault items → AreMadeFine items
+none_made items h = λ f there n e. h n (inside f (among_in items (body f) there) (elim e [ inl s ↦ small s | inr a ↦ again a ]))
+
 -- an accepted module is the one that the draft's lines build
 accepted_built : (draft : List (ℕ × Line)) (m : ModuleState) → IsAccepted draft m → bare_module m ≡ bare_module (built (symbols_after no_symbols draft) draft)
 accepted_built draft m a =
@@ -65,7 +72,7 @@ accepted_built draft m a =
     ∙ ap (λ e. M e whole.meaning.keeps) effects
     ∙ ap (λ k. M (effects_in groups) k) keeps
     ∙ ap N (bodies_bare (scope_of (effects_in groups) keeps_in items) whole.spare items)
-    ∙ ap bare_module (sym (built_is items a.named.shape.each))
+    ∙ ap bare_module (sym (built_is items a.named.shape.each (none_made items a.named.sound)))
     ∙ ap (λ (d : List (ℕ × Line)). bare_module (built (symbols_after no_symbols d) d)) (sym a.named.shape.lines)
 
 pub one_module : (draft : List (ℕ × Line)) (m n : ModuleState) → IsAccepted draft m → IsAccepted draft n → bare_module m ≡ bare_module n
