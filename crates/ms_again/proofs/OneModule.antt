@@ -92,6 +92,6 @@ same_by_room m n e = record { same = sym (module_bare m) ∙ ap plain_module e �
 
 -- whatever a text is read and accepted as is the same module
 pub only_same : (text : List ℕ) (draft other : List (ℕ × Line)) (m n : ModuleState) → IsDraft text draft → IsAccepted draft m → IsDraft text other → IsAccepted other n → IsSameModule m n
-only_same text draft other m n read accepted again there =
-    let e : other ≡ draft = one_draft text other draft again read in
+only_same text draft other m n read accepted reread there =
+    let e : other ≡ draft = one_draft text other draft reread read in
     same_by_room m n (one_module draft m n accepted (subst (λ (d : List (ℕ × Line)). IsAccepted d n) e there))
