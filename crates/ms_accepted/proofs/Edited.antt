@@ -1,11 +1,11 @@
 -- Behind an insert, a remove or a move without a fault an accepted function is accepted.
-use Rattle.std.proofs.Common.{◌≡◌, ◌≢◌, ◌∙◌, ◌<◌, ◌≤◌, ◌⊎◌, ℕ, zero, suc, Bool, true, false, List, [], ◌∷◌, ◌++◌, length, map, Option, Some, None, refl, sym, ap, subst, inl, inr, arith}
+use Rattle.std.proofs.Common.{◌≡◌, ◌∙◌, ◌<◌, ◌≤◌, ◌⊎◌, ℕ, zero, suc, Bool, true, false, List, [], ◌∷◌, ◌++◌, length, map, Option, Some, None, refl, sym, subst, inl, inr, arith}
 use Rattle.std.specs.Prelude.{slice_get, if◌then◌else◌}
 use Rattle.std.proofs.lemmas.Bool.{cases_Bool, cases_lt, true≢false}
 use Rattle.ms_ir.specs.declared.names.BlockNo.{BlockNo}
 use Rattle.ms_ir.specs.declared.names.LocalNo.{LocalNo}
 use Rattle.ms_ir.specs.declared.names.Name.{Name}
-use Rattle.ms_ir.specs.declared.names.Name.TheVariants.{Word, Number, Absent}
+use Rattle.ms_ir.specs.declared.names.Name.TheVariants.{Word, Absent}
 use Rattle.ms_ir.specs.declared.inst.Inst.{Inst}
 use Rattle.ms_ir.specs.declared.inst.Term.{Term}
 use Rattle.ms_ir.specs.declared.inst.Term.TheVariants.{Br, CondBr, Ret, Unreachable}
@@ -26,7 +26,7 @@ use Rattle.ms_edited.proofs.Shape.{old_block}
 use Rattle.ms_edited.proofs.Faults.{there_is, block_in, place_in}
 use Rattle.ms_edited.proofs.Put.{from_put}
 use Rattle.ms_edited.proofs.Cut.{from_cut}
-use Rattle.ms_accepted.specs.Func.{IsSaidInst, IsSaidTerm, AllSaid, IsAcceptedFunc, IsWordOrNone, AreApart, name_of_param, name_of_inst, names_of_block, names_in}
+use Rattle.ms_accepted.specs.Func.{IsSaidInst, IsSaidTerm, IsAcceptedFunc, IsWordOrNone, AreApart, name_of_param, name_of_inst, names_of_block, names_in}
 use Rattle.ms_accepted.specs.Edits.{IsInstIn}
 use Rattle.ms_accepted.proofs.OneMore.{IsFreshIn, IsOneMore, among_more, among_less, one_among, apart_more, apart_less, fresh_less, more_behind, names_of, put_more, cut_less}
 use Rattle.ms_accepted.proofs.Fitting.{said_fits}

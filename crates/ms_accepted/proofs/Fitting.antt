@@ -10,7 +10,7 @@ use Rattle.ms_ir.specs.declared.inst.Edit.TheVariants.{Insert}
 use Rattle.ms_ir.specs.Module.{ModuleState}
 use Rattle.ms_ir.specs.Types.{types_stand}
 use Rattle.ms_ir.specs.Types as ir
-use Rattle.ms_ir.specs.Uses.{Operand, operands_of}
+use Rattle.ms_ir.specs.Uses.{operands_of}
 use Rattle.ms_ir.specs.Edits.{IsFittingValue, IsFittingEdit}
 use Rattle.ms_grammar.specs.Numbers.{bits}
 use Rattle.ms_grammar.specs.Fits.{IsValue}

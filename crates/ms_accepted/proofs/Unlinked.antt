@@ -1,5 +1,5 @@
 -- Behind an unlink without a fault an accepted function is accepted.
-use Rattle.std.proofs.Common.{◌≡◌, ◌∙◌, ◌<◌, ◌⊎◌, ℕ, zero, suc, true, List, [], ◌∷◌, ◌++◌, length, get_or, set, map, Option, Some, None, refl, sym, ap, subst, inl, inr, arith, length-set}
+use Rattle.std.proofs.Common.{◌≡◌, ◌∙◌, ◌<◌, ℕ, zero, suc, true, List, [], ◌∷◌, ◌++◌, length, get_or, map, Option, Some, None, refl, sym, ap, subst, inl, inr, arith, length-set}
 use Rattle.std.specs.Prelude.{slice_get, option_map}
 use Rattle.std.proofs.lemmas.Bool.{cases_eq}
 use Rattle.std.proofs.lemmas.Option.{slice_get-get_or, get_or_from_slice_get}
@@ -12,7 +12,7 @@ use Rattle.ms_ir.specs.declared.inst.Term.TheVariants.{Br, CondBr, Ret, Unreacha
 use Rattle.ms_ir.specs.declared.inst.Edit.TheVariants.{Unlink}
 use Rattle.ms_ir.specs.declared.faults.EditFault.TheVariants as fault
 use Rattle.ms_ir.specs.Func.{Placed, Block, FuncState, insts_at, no_block, with_insts}
-use Rattle.ms_ir.specs.Changes.{IsCondBr, kept_target, cut_target, placed_without, inst_without, with_entry_lost, with_term, with_edge_cut}
+use Rattle.ms_ir.specs.Changes.{IsCondBr, kept_target, cut_target, placed_without, inst_without, with_entry_lost, with_term}
 use Rattle.ms_ir.specs.Locals.{IsNumbered}
 use Rattle.ms_ir.specs.Module.{ModuleState}
 use Rattle.ms_ir.specs.SoundFunc.{IsSoundFunc}
@@ -24,7 +24,7 @@ use Rattle.ms_edited.proofs.Places.{term_stays}
 use Rattle.ms_edited.proofs.Shape.{old_block}
 use Rattle.ms_edited.proofs.Faults.{block_in}
 use Rattle.ms_edited.proofs.Lost.{lost, lost_at, lost_inst, lost_cases}
-use Rattle.ms_accepted.specs.Func.{IsSaidInst, IsSaidTerm, IsAcceptedFunc, IsWordOrNone, AreApart, name_of_param, name_of_inst, names_of_block}
+use Rattle.ms_accepted.specs.Func.{IsSaidInst, IsAcceptedFunc, IsWordOrNone, AreApart, name_of_param, name_of_inst, names_of_block}
 use Rattle.ms_accepted.proofs.OneMore.{names_of}
 use Rattle.ms_accepted.proofs.Fewer.{kept_said, less_said}
 use Rattle.ms_accepted.proofs.Edited.{SoundStays, IsFine, IsFineTerm, fine_at, fine_term, accepted_with}

@@ -1,5 +1,5 @@
 -- What is asked of an edit in its module, beside the faults that it may have: what is inserted is an instruction that a line of the grammar says there.
-use Rattle.std.specs.Prelude.{◌≡◌, ℕ, false}
+use Rattle.std.specs.Prelude.{◌≡◌, false}
 use Rattle.ms_ir.specs.declared.names.Name.{Name}
 use Rattle.ms_ir.specs.declared.names.Name.TheVariants.{Absent}
 use Rattle.ms_ir.specs.declared.inst.Inst.{Inst}
