@@ -16,7 +16,7 @@ use Rattle.ms_alias.specs.Bases.{Base, Alloca as AllocaBase, Argument as Argumen
 use Rattle.ms_alias.specs.Captured.{IsCaptured, IsKept}
 use Rattle.ms_alias.specs.Reaches.{Reach, Span, Called, IsSpan, IsRead, IsWritten, IsReachOf, IsKnown, IsReached, IsLocRead, IsLocWritten, ReadsLoc, WritesLoc}
 use Rattle.ms_alias.specs.Meeting.{HaveOneRoot, ShareByte, HasLength, ShareBase, Meet, AreOneRoot, MeetInTurn, MayWrite, MayWriteInTurn, MayRead}
-use Rattle.ms_cache.specs.Edited.{SamePointers, SameEffects, SameLocs}
+use Rattle.ms_cache.specs.Edited.{SamePointers, SameWrites, SameReads, SameLocs}
 use Rattle.ms_cache.proofs.Alike.{Alike, alike_back, root_alike, base_alike, turning_alike, argument_alike}
 use Rattle.ms_cache.proofs.Insts.{Has, SameInsts, within}
 
@@ -204,7 +204,7 @@ pointers_both f g s =
 
 -- ---- the same instructions
 
-loc_read : (f g : FuncState) → Alike f g → (i : InstNo) (p : Inst) (loc : Loc) → IsLocRead f i p loc → IsLocRead g i p loc
+pub loc_read : (f g : FuncState) → Alike f g → (i : InstNo) (p : Inst) (loc : Loc) → IsLocRead f i p loc → IsLocRead g i p loc
 loc_read f g s i (Load ty ptr tail) loc h = (h.0, h.1, h.2, h.3, root_alike f g s h.0 h.2 h.3 h.4, h.5)
 loc_read f g s i (Copy to from len head tail) loc h = (h.0, h.1, h.2, h.3, root_alike f g s h.0 h.2 h.3 h.4, h.5)
 loc_read f g s i (Call callee ret args effects head tail) loc h = h
@@ -259,17 +259,26 @@ finds_loc : (f g : FuncState) → Alike f g → SameInsts f g → (loc : Loc) �
 finds_loc f g s t (Bytes root from len) = tt
 finds_loc f g s t (ReadBy j) = finds_reads f g s t j.0
 
-pub effects_moved : (f g : FuncState) → Alike f g → SameInsts f g → (i : ℕ) (loc : Loc) → SameEffects f g i loc
-effects_moved f g s t i loc =
+pub writes_between : (f g : FuncState) → Both f g → (i : ℕ) (loc : Loc) → Finds f g (WritesAlike f g) i → FindsLoc f g loc → Finds g f (WritesAlike g f) i → FindsLoc g f loc → SameWrites f g i loc
+writes_between f g s i loc t u v w = record {
+  at_all = (may_write_kept f g s i loc t u, may_write_kept g f (both_back f g s) i loc v w);
+  in_turn = (in_turn_kept f g s i loc t u, in_turn_kept g f (both_back f g s) i loc v w);
+}
+
+pub reads_between : (f g : FuncState) → Both f g → (i : ℕ) (loc : Loc) → Finds f g (ReadsAlike f g) i → FindsLoc f g loc → Finds g f (ReadsAlike g f) i → FindsLoc g f loc → SameReads f g i loc
+reads_between f g s i loc t u v w = (may_read_kept f g s i loc t u, may_read_kept g f (both_back f g s) i loc v w)
+
+pub writes_same_insts : (f g : FuncState) → Alike f g → SameInsts f g → (i : ℕ) (loc : Loc) → SameWrites f g i loc
+writes_same_insts f g s t i loc =
     let z = alike_back f g s in
     let u = insts_back f g t in
-    let b = both_moved f g s t in
-    let c = both_moved g f z u in
-    record {
-      writes = (may_write_kept f g b i loc (finds_writes f g s t i) (finds_loc f g s t loc), may_write_kept g f c i loc (finds_writes g f z u i) (finds_loc g f z u loc));
-      in_turn = (in_turn_kept f g b i loc (finds_writes f g s t i) (finds_loc f g s t loc), in_turn_kept g f c i loc (finds_writes g f z u i) (finds_loc g f z u loc));
-      reads = (may_read_kept f g b i loc (finds_reads f g s t i) (finds_loc f g s t loc), may_read_kept g f c i loc (finds_reads g f z u i) (finds_loc g f z u loc));
-    }
+    writes_between f g (both_moved f g s t) i loc (finds_writes f g s t i) (finds_loc f g s t loc) (finds_writes g f z u i) (finds_loc g f z u loc)
+
+pub reads_same_insts : (f g : FuncState) → Alike f g → SameInsts f g → (i : ℕ) (loc : Loc) → SameReads f g i loc
+reads_same_insts f g s t i loc =
+    let z = alike_back f g s in
+    let u = insts_back f g t in
+    reads_between f g (both_moved f g s t) i loc (finds_reads f g s t i) (finds_loc f g s t loc) (finds_reads g f z u i) (finds_loc g f z u loc)
 
 reads_moved : (f g : FuncState) → Alike f g → SameInsts f g → (i : InstNo) (loc : Loc) → ReadsLoc f i loc → ReadsLoc g i loc
 reads_moved f g s t i loc h = let r = moved_at f g t i.0 h.0 h.1 h.2 h.3 in (r.0, r.1, h.2, r.2, loc_read f g s i h.2.inst loc h.4)

@@ -5,3 +5,5 @@ pub mod Alike
 pub mod Insts
 pub mod Accesses
 pub mod Shifted
+pub mod Mapped
+pub mod Sourced

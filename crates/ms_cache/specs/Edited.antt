@@ -22,11 +22,14 @@ pub record SamePointers (f g : FuncState) : Type 0 where
   pub turning : (r : Root) → IsTurning f r ↔ IsTurning g r
   pub captured : (l : LocalNo) → IsCaptured f l ↔ IsCaptured g l
 
--- The instruction of this number may write, and may read, the location in both functions or in neither.
-pub record SameEffects (f g : FuncState) (i : ℕ) (loc : Loc) : Type 0 where
-  pub writes : MayWrite f i loc ↔ MayWrite g i loc
+-- the instruction of this number may write the location in both functions or in neither
+pub record SameWrites (f g : FuncState) (i : ℕ) (loc : Loc) : Type 0 where
+  pub at_all : MayWrite f i loc ↔ MayWrite g i loc
   pub in_turn : MayWriteInTurn f i loc ↔ MayWriteInTurn g i loc
-  pub reads : MayRead f i loc ↔ MayRead g i loc
+
+-- the same of reading
+abbrev pub SameReads : FuncState → FuncState → ℕ → Loc → Type 0
+SameReads f g i loc = MayRead f i loc ↔ MayRead g i loc
 
 -- the location that the instruction reads, and the bytes that it writes, are the same in both
 pub record SameLocs (f g : FuncState) (i : InstNo) : Type 0 where

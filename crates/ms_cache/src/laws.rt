@@ -1,12 +1,16 @@
 // Laws of kept answers and of kept tables, the contracts of a function that does nothing.
-ghost use Rattle.std.specs.Prelude.{◌≡◌, ◌↔◌, ◌<◌, ℕ, length, List, Contains};
+ghost use Rattle.std.specs.Prelude.{◌≡◌, ◌≢◌, ◌↔◌, ◌<◌, ℕ, length, List, Contains};
 ghost use Rattle.ms_ir.specs.declared.names.InstNo.{InstNo};
+ghost use Rattle.ms_ir.specs.declared.inst.Arg.{Arg};
 ghost use Rattle.ms_ir.specs.Func.{FuncState, IsShifted};
+ghost use Rattle.ms_ir.specs.Changes.{with_source};
 ghost use Rattle.ms_alias.specs.declared.loc.Loc.{Loc};
+ghost use Rattle.ms_alias.specs.declared.loc.Loc.TheVariants.{ReadBy};
+ghost use Rattle.ms_alias.specs.Reaches.{ReadsLoc, WritesLoc};
 ghost use Rattle.ms_alias.specs.Tables.{AliasState, IsAliasOf};
 ghost use Rattle.ms_cache.specs.declared.change.Change.{Change};
 ghost use Rattle.ms_cache.specs.Stays.{Kept, Stays, AreOnce, AreWhatStays};
-ghost use Rattle.ms_cache.specs.Edited.{MakesNone, SamePointers, SameEffects, SameLocs};
+ghost use Rattle.ms_cache.specs.Edited.{MakesNone, SamePointers, SameWrites, SameReads, SameLocs};
 
 /// Exactly those answers are left that were kept and stay; none stands twice; and there is one list of them alone.
 pub fn stays_told()
@@ -20,6 +24,18 @@ pub fn stays_told()
 pub fn shift_kept()
     ensures tables { (f g : FuncState) (n b place : ℕ) → IsShifted f g n b place → b < length f.blocks → MakesNone f n → (a : AliasState) → IsAliasOf f a → IsAliasOf g a }
     ensures pointers { (f g : FuncState) (n b place : ℕ) → IsShifted f g n b place → b < length f.blocks → MakesNone f n → SamePointers f g }
-    ensures effects { (f g : FuncState) (n b place : ℕ) → IsShifted f g n b place → b < length f.blocks → MakesNone f n → (i : ℕ) (loc : Loc) → SameEffects f g i loc }
+    ensures writes { (f g : FuncState) (n b place : ℕ) → IsShifted f g n b place → b < length f.blocks → MakesNone f n → (i : ℕ) (loc : Loc) → SameWrites f g i loc }
+    ensures reads { (f g : FuncState) (n b place : ℕ) → IsShifted f g n b place → b < length f.blocks → MakesNone f n → (i : ℕ) (loc : Loc) → SameReads f g i loc }
     ensures locations { (f g : FuncState) (n b place : ℕ) → IsShifted f g n b place → b < length f.blocks → MakesNone f n → (i : InstNo) → SameLocs f g i }
+{}
+
+/// Where a memcpy took another source, the tables are the function's without any call, its pointers are the same, and each instruction writes what it did
+/// and, the memcpy left out, reads what it did.
+pub fn source_kept()
+    ensures tables { (f : FuncState) (n : ℕ) (arg : Arg) (a : AliasState) → IsAliasOf f a → IsAliasOf (with_source f n arg) a }
+    ensures pointers { (f : FuncState) (n : ℕ) (arg : Arg) → SamePointers f (with_source f n arg) }
+    ensures writes { (f : FuncState) (n : ℕ) (arg : Arg) (i : ℕ) (loc : Loc) → loc ≢ ReadBy (record { 0 = n }) → SameWrites f (with_source f n arg) i loc }
+    ensures reads { (f : FuncState) (n : ℕ) (arg : Arg) (i : ℕ) (loc : Loc) → i ≢ n → loc ≢ ReadBy (record { 0 = n }) → SameReads f (with_source f n arg) i loc }
+    ensures written { (f : FuncState) (n : ℕ) (arg : Arg) (i : InstNo) (loc : Loc) → WritesLoc f i loc ↔ WritesLoc (with_source f n arg) i loc }
+    ensures read { (f : FuncState) (n : ℕ) (arg : Arg) (i : InstNo) (loc : Loc) → i.0 ≢ n → ReadsLoc f i loc ↔ ReadsLoc (with_source f n arg) i loc }
 {}
