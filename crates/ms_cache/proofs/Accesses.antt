@@ -40,10 +40,10 @@ both_back f g s = record { alike = alike_back f g s.alike; captured = λ l. ((s.
 pub val_base : (f g : FuncState) → Alike f g → (v : Val) (b : Base) → HasValBase f v b → HasValBase g v b
 val_base f g s v b h = (h.0, h.1, base_alike f g s h.0 b h.2)
 
-lead : (f g : FuncState) → Alike f g → (args : List Arg) (b : Base) → LeadTo f args b → LeadTo g args b
+pub lead : (f g : FuncState) → Alike f g → (args : List Arg) (b : Base) → LeadTo f args b → LeadTo g args b
 lead f g s args b h = (h.0, h.1, val_base f g s h.0.val b h.2)
 
-reach_same : (f g : FuncState) → Alike f g → (u : Reach) → SameReach f g u u
+pub reach_same : (f g : FuncState) → Alike f g → (u : Reach) → SameReach f g u u
 reach_same f g s (Span r from len) = refl
 reach_same f g s (Called args other hidden) = (args, refl, λ b. (lead f g s args b, lead g f (alike_back f g s) args b))
 
@@ -119,7 +119,7 @@ WritesAlike f g p q = (u : Reach) → IsWritten f p u → (v : Reach) × IsWritt
 abbrev pub ReadsAlike : FuncState → FuncState → Inst → Inst → Type 0
 ReadsAlike f g p q = (u : Reach) → IsRead f p u → (v : Reach) × IsRead g q v × SameReach f g u v
 
-span_kept : (f g : FuncState) → Alike f g → (v : Val) (len : ℕ) (u : Reach) → IsSpan f v len u → IsSpan g v len u
+pub span_kept : (f g : FuncState) → Alike f g → (v : Val) (len : ℕ) (u : Reach) → IsSpan f v len u → IsSpan g v len u
 span_kept f g s v len u h = (h.0, h.1, h.2, h.3, root_alike f g s h.0 h.2 h.3 h.4, h.5)
 
 written_kept : (f g : FuncState) → Alike f g → (p : Inst) (u : Reach) → IsWritten f p u → IsWritten g p u
@@ -232,7 +232,7 @@ loc_written f g s (Select cond ty a b tail) loc h = h
 loc_written f g s (Cast op flags from a to tail) loc h = h
 loc_written f g s (Phi ty entries tail) loc h = h
 
-insts_back : (f g : FuncState) → SameInsts f g → SameInsts g f
+pub insts_back : (f g : FuncState) → SameInsts f g → SameInsts g f
 insts_back f g s y = ((s y).1, (s y).0)
 
 moved_at : (f g : FuncState) → SameInsts f g → (n b place : ℕ) (x : Placed) → IsAt f.blocks n b place x → (c : ℕ) × (k : ℕ) × IsAt g.blocks n c k x

@@ -7,3 +7,4 @@ pub mod Accesses
 pub mod Shifted
 pub mod Mapped
 pub mod Sourced
+pub mod Replaced

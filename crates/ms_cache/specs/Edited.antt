@@ -1,8 +1,16 @@
 -- What stays of a function's pointers, and of what its instructions may write and read, when the function is edited.
-use Rattle.std.specs.Prelude.{◌≡◌, ◌↔◌, ℕ, ℤ, false}
+use Rattle.std.specs.Prelude.{◌≡◌, ◌↔◌, ℕ, ℤ, true, false, List, Some}
 use Rattle.ms_ir.specs.declared.names.LocalNo.{LocalNo}
 use Rattle.ms_ir.specs.declared.names.InstNo.{InstNo}
-use Rattle.ms_ir.specs.Func.{Placed, FuncState, IsAt}
+use Rattle.ms_ir.specs.declared.names.Ty.{Ty}
+use Rattle.ms_ir.specs.declared.inst.Val.{Val}
+use Rattle.ms_ir.specs.declared.inst.Inst.{Inst}
+use Rattle.ms_ir.specs.declared.inst.Inst.TheVariants.{Load}
+use Rattle.ms_ir.specs.Func.{Placed, FuncState, IsAt, IsTaken}
+use Rattle.ms_ir.specs.Changes.{with_replaced}
+use Rattle.ms_ir.specs.Types.{is_integer}
+use Rattle.ms_ir.specs.Locals.{HasType}
+use Rattle.ms_ir.specs.SoundFunc.{IsValueIn}
 use Rattle.ms_alias.specs.declared.loc.Root.{Root}
 use Rattle.ms_alias.specs.declared.loc.Loc.{Loc}
 use Rattle.ms_alias.specs.Roots.{makes_pointer, HasRoot, IsTurning}
@@ -35,3 +43,26 @@ SameReads f g i loc = MayRead f i loc ↔ MayRead g i loc
 pub record SameLocs (f g : FuncState) (i : InstNo) : Type 0 where
   pub reads : (loc : Loc) → ReadsLoc f i loc ↔ ReadsLoc g i loc
   pub writes : (loc : Loc) → WritesLoc f i loc ↔ WritesLoc g i loc
+
+-- A local that holds numbers, and a value of its type.
+pub record GivesWay (f : FuncState) (l : LocalNo) (by : Val) : Type 0 where
+  pub ty : Ty
+  pub integer : is_integer ty ≡ true
+  pub local : HasType f l ty
+  pub value : IsValueIn f ty by
+
+-- Each use of a load's result became a use of a value of its type, and then the load was taken.
+pub record IsLoadGone (f g : FuncState) (n : ℕ) (by : Val) : Type 0 where
+  pub b : ℕ
+  pub place : ℕ
+  pub x : Placed
+  pub at : IsAt f.blocks n b place x
+  pub ty : Ty
+  pub ptr : Val
+  pub tail : List ℕ
+  pub load : x.inst ≡ Load ty ptr tail
+  pub l : LocalNo
+  pub result : x.result ≡ Some l
+  pub value : IsValueIn f ty by
+  pub inst : Inst
+  pub taken : IsTaken (with_replaced f l by) g n inst

@@ -1,16 +1,20 @@
 // Laws of kept answers and of kept tables, the contracts of a function that does nothing.
 ghost use Rattle.std.specs.Prelude.{◌≡◌, ◌≢◌, ◌↔◌, ◌<◌, ℕ, length, List, Contains};
 ghost use Rattle.ms_ir.specs.declared.names.InstNo.{InstNo};
+ghost use Rattle.ms_ir.specs.declared.names.LocalNo.{LocalNo};
 ghost use Rattle.ms_ir.specs.declared.inst.Arg.{Arg};
+ghost use Rattle.ms_ir.specs.declared.inst.Val.{Val};
 ghost use Rattle.ms_ir.specs.Func.{FuncState, IsShifted};
-ghost use Rattle.ms_ir.specs.Changes.{with_source};
+ghost use Rattle.ms_ir.specs.Changes.{with_source, with_replaced};
+ghost use Rattle.ms_ir.specs.Locals.{IsNumbered};
+ghost use Rattle.ms_ir.specs.SoundFunc.{IsSoundFunc};
 ghost use Rattle.ms_alias.specs.declared.loc.Loc.{Loc};
 ghost use Rattle.ms_alias.specs.declared.loc.Loc.TheVariants.{ReadBy};
 ghost use Rattle.ms_alias.specs.Reaches.{ReadsLoc, WritesLoc};
 ghost use Rattle.ms_alias.specs.Tables.{AliasState, IsAliasOf};
 ghost use Rattle.ms_cache.specs.declared.change.Change.{Change};
 ghost use Rattle.ms_cache.specs.Stays.{Kept, Stays, AreOnce, AreWhatStays};
-ghost use Rattle.ms_cache.specs.Edited.{MakesNone, SamePointers, SameWrites, SameReads, SameLocs};
+ghost use Rattle.ms_cache.specs.Edited.{MakesNone, GivesWay, SamePointers, SameWrites, SameReads, SameLocs};
 
 /// Exactly those answers are left that were kept and stay; none stands twice; and there is one list of them alone.
 pub fn stays_told()
@@ -38,4 +42,11 @@ pub fn source_kept()
     ensures reads { (f : FuncState) (n : ℕ) (arg : Arg) (i : ℕ) (loc : Loc) → i ≢ n → loc ≢ ReadBy (record { 0 = n }) → SameReads f (with_source f n arg) i loc }
     ensures written { (f : FuncState) (n : ℕ) (arg : Arg) (i : InstNo) (loc : Loc) → WritesLoc f i loc ↔ WritesLoc (with_source f n arg) i loc }
     ensures read { (f : FuncState) (n : ℕ) (arg : Arg) (i : InstNo) (loc : Loc) → i.0 ≢ n → ReadsLoc f i loc ↔ ReadsLoc (with_source f n arg) i loc }
+{}
+
+/// Where each use of a local that holds numbers became a use of a value of its type, the tables are the function's without any call, and its pointers are
+/// the same.
+pub fn replace_kept()
+    ensures tables { (f : FuncState) → IsNumbered f → (l : LocalNo) (by : Val) → GivesWay f l by → IsSoundFunc f → (a : AliasState) → IsAliasOf f a → IsAliasOf (with_replaced f l by) a }
+    ensures pointers { (f : FuncState) → IsNumbered f → (l : LocalNo) (by : Val) → GivesWay f l by → IsSoundFunc f → SamePointers f (with_replaced f l by) }
 {}

@@ -1,0 +1,272 @@
+-- What is left where a local that holds numbers gave way to a value of its type.
+use Rattle.std.proofs.Common.{◌≡◌, ◌<◌, ◌↔◌, ℕ, zero, suc, Bool, true, false, cond, List, [], ◌∷◌, Option, Some, None, length, get_or, map, refl, sym, ap, ◌∙◌, subst, inl, inr, ⊎_elim, true≢false, arith}
+use Rattle.std.specs.Prelude.{◌==◌, ◌&&◌, Contains, slice_get}
+use Rattle.std.proofs.lemmas.Bool.{cond-true, cond-false, ne_eqb, eqb-true, and_parts, cases_Bool}
+use Rattle.std.proofs.lemmas.Option.{slice_get_within}
+use Rattle.ms_ir.specs.declared.names.Ty.{Ty}
+use Rattle.ms_ir.specs.declared.names.Ty.TheVariants.{I1, I8, I16, I32, I64, Ptr}
+use Rattle.ms_ir.specs.declared.names.LocalNo.{LocalNo}
+use Rattle.ms_ir.specs.declared.names.InstNo.{InstNo}
+use Rattle.ms_ir.specs.declared.names.Param.{Param}
+use Rattle.ms_ir.specs.declared.inst.Val.{Val}
+use Rattle.ms_ir.specs.declared.inst.Val.TheVariants.{Num, Local as LocalVal, Global as GlobalVal}
+use Rattle.ms_ir.specs.declared.inst.Arg.{Arg}
+use Rattle.ms_ir.specs.declared.inst.Entry.{Entry}
+use Rattle.ms_ir.specs.declared.inst.Inst.{Inst}
+use Rattle.ms_ir.specs.declared.inst.Inst.TheVariants.{Alloca as AllocaInst, Gep, Step as StepInst, Load, Store, Copy, Call, Bin, Cmp, Select, Cast, Phi}
+use Rattle.ms_ir.specs.declared.inst.Term.{Term}
+use Rattle.ms_ir.specs.declared.inst.Term.TheVariants.{Br, CondBr, Ret, Unreachable}
+use Rattle.ms_ir.specs.Func.{Placed, Block, FuncState, IsAt, insts_at}
+use Rattle.ms_ir.specs.Changes.{val_with, arg_with, entry_with, inst_with, term_with, placed_with, block_with, with_replaced}
+use Rattle.ms_ir.specs.Graph.{successors}
+use Rattle.ms_ir.specs.Inst.{result_type}
+use Rattle.ms_ir.specs.Locals.{IsNumbered, IsGiver, HasType}
+use Rattle.ms_ir.specs.Types.{is_integer, is_pointer, types_stand}
+use Rattle.ms_ir.specs.Uses.{Operand, of_type, entry_operand, operands_of}
+use Rattle.ms_ir.specs.SoundFunc.{IsValueIn, AreValues, IsSoundFunc}
+use Rattle.ms_meaning.specs.Values.{size_of}
+use Rattle.ms_alias.specs.declared.loc.Root.{Root}
+use Rattle.ms_alias.specs.declared.loc.Root.TheVariants.{Local, Global}
+use Rattle.ms_alias.specs.declared.loc.Loc.{Loc}
+use Rattle.ms_alias.specs.declared.loc.Loc.TheVariants.{Bytes, ReadBy}
+use Rattle.ms_alias.specs.Roots.{makes, makes_pointer, maker_of, pointer_of, step_by}
+use Rattle.ms_alias.specs.Bases.{Base, Alloca as AllocaBase, HasBase, HasValBase, IsBrought, IsNamed, with_pointer, pointers_in, leads_in, leads_of}
+use Rattle.ms_alias.specs.Captured.{IsCaptured, args_of}
+use Rattle.ms_alias.specs.Reaches.{Reach, Span, Called, IsSpan, IsRead, IsWritten, ReadsLoc, WritesLoc, IsLocRead, IsLocWritten}
+use Rattle.ms_alias.specs.Tables.{AliasState, IsAliasOf}
+use Rattle.ms_alias.proofs.Makers.{is_number, no_maker}
+use Rattle.ms_cache.specs.Edited.{GivesWay, SamePointers, SameWrites, SameReads, SameLocs}
+use Rattle.ms_cache.proofs.Alike.{Alike, alike_back, tables_alike, look}
+use Rattle.ms_cache.proofs.Accesses.{Both, both_back, val_base, lead, LeadTo, SameReach, reach_same, span_kept, Finds, FindsLoc, WritesAlike, ReadsAlike, writes_same, reads_same, writes_between, reads_between, pointers_both, loc_read, loc_written}
+use Rattle.ms_cache.proofs.Mapped.{MakesAlike, makes_itself, makes_local, found_to, found_from, makers_map, edges_map, finds_to, finds_from, at_to, at_from}
+
+-- ---- lists
+
+here_in : {A : Type 0} (x : A) (xs : List A) → Contains (x ∷ xs) x
+here_in x xs = (zero, omega arith, refl)
+
+there_in : {A : Type 0} (y : A) (xs : List A) (x : A) → Contains xs x → Contains (y ∷ xs) x
+there_in y xs x h = (suc h.0, let lt = h.1 in omega arith, h.2)
+
+none_in : {A : Type 0} (x : A) → Contains [] x → ⊥
+none_in x h = let below : h.0 < 0 = h.1 in omega arith
+
+map_in : {A B : Type 0} (p : A → B) (xs : List A) (x : A) → Contains xs x → Contains (map p xs) (p x)
+map_in p xs x h = at xs h.0 h.1 h.2 where
+  at : (ys : List _) (k : ℕ) → k < length ys → get_or ys k x ≡ x → Contains (map p ys) (p x)
+  at [] k lt e = absurd (omega arith)
+  at (y ∷ ys) zero lt e = (zero, omega arith, ap p e)
+  at (y ∷ ys) (suc k) lt e = let r = at ys k (omega arith) e in there_in (p y) (map p ys) (p x) r
+
+in_map : {A B : Type 0} (p : A → B) (xs : List A) (z : B) → Contains (map p xs) z → (x : A) × Contains xs x × (p x ≡ z)
+in_map p xs z h = at xs h.0 h.1 h.2 where
+  at : (ys : List _) (k : ℕ) → k < length (map p ys) → get_or (map p ys) k z ≡ z → (x : _) × Contains ys x × (p x ≡ z)
+  at [] k lt e = absurd (omega arith)
+  at (y ∷ ys) zero lt e = (y, here_in y ys, e)
+  at (y ∷ ys) (suc k) lt e = let r = at ys k (omega arith) e in (r.0, there_in y ys r.0 r.1, r.2)
+
+-- ---- types
+
+pointer_is : (ty : Ty) → is_pointer ty ≡ true → ty ≡ Ptr
+pointer_is I1 e = cc
+pointer_is I8 e = cc
+pointer_is I16 e = cc
+pointer_is I32 e = cc
+pointer_is I64 e = cc
+pointer_is Ptr e = refl
+
+-- what makes a pointer has one as its result
+pointer_type : (p : Inst) → makes_pointer p ≡ true → result_type p ≡ Some Ptr
+pointer_type (AllocaInst size head tail) e = refl
+pointer_type (Gep base offset head index tail) e = refl
+pointer_type (StepInst base offset terms head index tail) e = refl
+pointer_type (Select test ty a b tail) e = ap Some (pointer_is ty e)
+pointer_type (Phi ty entries tail) e = ap Some (pointer_is ty e)
+pointer_type (Load ty ptr tail) e = cc
+pointer_type (Store ty val ptr tail) e = cc
+pointer_type (Copy to from len head tail) e = cc
+pointer_type (Call callee ret args effects head tail) e = cc
+pointer_type (Bin op flags ty a b tail) e = cc
+pointer_type (Cmp pred flags ty a b tail) e = cc
+pointer_type (Cast op flags from a to tail) e = cc
+
+-- a local has one type
+one_type : (f : FuncState) (l : LocalNo) (a b : Ty) → IsNumbered f → HasType f l a → HasType f l b → a ≡ b
+one_type f l a b n (inl p) (inl q) = let same : Some p.0 ≡ Some q.0 = sym p.1 ∙ q.1 in let one : p.0 ≡ q.0 = cc in sym p.2 ∙ ap (λ (x : Param). x.ty) one ∙ q.2
+one_type f l a b n (inl p) (inr g) = let within = slice_get_within f.params l.0 p.0 p.1 in let range = (n.result_range l g.0 g.1 g.2 g.3).0 in absurd (omega arith)
+one_type f l a b n (inr g) (inl p) = let within = slice_get_within f.params l.0 p.0 p.1 in let range = (n.result_range l g.0 g.1 g.2 g.3).0 in absurd (omega arith)
+one_type f l a b n (inr g) (inr h) =
+    let at = n.one_giver l g.0 g.1 h.0 h.1 g.2 h.2 g.3 h.3 in
+    let there : slice_get (insts_at f.blocks h.0) h.1 ≡ Some g.2 = subst (λ k. slice_get (insts_at f.blocks h.0) k ≡ Some g.2) at.1 (subst (λ c. slice_get (insts_at f.blocks c) g.1 ≡ Some g.2) at.0 g.3.found) in
+    let same : Some g.2 ≡ Some h.2 = sym there ∙ h.3.found in
+    let one : g.2 ≡ h.2 = cc in
+    let both : Some a ≡ Some b = sym g.4 ∙ ap (λ (x : Placed). result_type x.inst) one ∙ h.4 in
+    cc
+
+successors_same : (l : LocalNo) (by : Val) (t : Term) → successors (term_with l by t) ≡ successors t
+successors_same l by (Br b text) = refl
+successors_same l by (CondBr test a b text) = refl
+successors_same l by (Ret None text) = refl
+successors_same l by (Ret (Some p) text) = refl
+successors_same l by (Unreachable text) = refl
+
+args_with : (l : LocalNo) (by : Val) (p : Inst) → args_of (inst_with l by p) ≡ map (arg_with l by) (args_of p)
+args_with l by (AllocaInst size head tail) = refl
+args_with l by (Gep base offset head index tail) = refl
+args_with l by (StepInst base offset terms head index tail) = refl
+args_with l by (Load ty ptr tail) = refl
+args_with l by (Store ty val ptr tail) = refl
+args_with l by (Copy to from len head tail) = refl
+args_with l by (Call callee ret args effects head tail) = refl
+args_with l by (Bin op flags ty a b tail) = refl
+args_with l by (Cmp pred flags ty a b tail) = refl
+args_with l by (Select test ty a b tail) = refl
+args_with l by (Cast op flags from a to tail) = refl
+args_with l by (Phi ty entries tail) = refl
+
+insts_are : (l : LocalNo) (by : Val) (b : Block) → (block_with l by b).insts ≡ map (placed_with l by) b.insts
+insts_are l by b = refl
+
+number_same : (l : LocalNo) (by : Val) (x : Placed) → (placed_with l by x).number ≡ x.number
+number_same l by x = refl
+
+module _ (f : FuncState) (n : IsNumbered f) (l : LocalNo) (by : Val) (w : GivesWay f l by) where
+  -- ---- values
+
+  no_pointer : (k : LocalNo) (ty : Ty) → HasType f k ty → is_integer ty ≡ true → HasType f k Ptr → ⊥
+  no_pointer k ty h i p = true≢false (sym i ∙ ap is_integer (one_type f k ty Ptr n h p))
+
+  -- a pointer stays what it is
+  stays : (v : Val) → IsValueIn f Ptr v → val_with l by v ≡ v
+  stays (Num ty m) h = refl
+  stays (GlobalVal g) h = refl
+  stays (LocalVal k) h = cond-false (k.0 == l.0) by (LocalVal k) (ne_eqb k.0 l.0 (λ e. no_pointer l w.ty w.local w.integer (subst (λ (m : LocalNo). HasType f m Ptr) (is_number k l e) h)))
+
+  stays_typed : (ty : Ty) (v : Val) → is_pointer ty ≡ true → IsValueIn f ty v → val_with l by v ≡ v
+  stays_typed ty v e h = stays v (subst (λ (t : Ty). IsValueIn f t v) (pointer_is ty e) h)
+
+  no_maker_of : (k : LocalNo) (ty : Ty) → HasType f k ty → is_integer ty ≡ true → maker_of f k ≡ None
+  no_maker_of k ty h i = no_maker f k (λ c j x g p. no_pointer k ty h i (inr (c, j, x, g, pointer_type x.inst p)))
+
+  not_named : (k : LocalNo) (ty : Ty) → HasType f k ty → is_integer ty ≡ true → (b : Base) → IsNamed f (Local k) b → ⊥
+  not_named k ty h i b (inl a) = let m = a.0 in let both : Some m.0 ≡ None = sym m.1 ∙ no_maker_of k ty h i in cc
+  not_named k ty h i b (inr a) = let p = a.0 in no_pointer k ty h i (inl (p.0, p.1, pointer_is p.0.ty p.2))
+
+  not_brought : (k : LocalNo) (ty : Ty) → HasType f k ty → is_integer ty ≡ true → (b : Base) (m : ℕ) (q : Root) → IsBrought f m (Local k) q → IsNamed f q b → ⊥
+  not_brought k ty h i b zero q e named = not_named k ty h i b (subst (λ (r : Root). IsNamed f r b) (sym e) named)
+  not_brought k ty h i b (suc m) q e named = none_in e.0 (subst (λ ps. Contains ps e.0) (ap leads_in (no_maker_of k ty h i)) e.1)
+
+  -- a number has no base
+  no_base : (v : Val) (ty : Ty) → is_integer ty ≡ true → IsValueIn f ty v → (b : Base) → HasValBase f v b → ⊥
+  no_base (Num own m) ty i h b k = let none : None ≡ Some k.0 = k.1 in cc
+  no_base (LocalVal j) ty i h b k =
+      let some : Some (Local j) ≡ Some k.0 = k.1 in
+      let same : Local j ≡ k.0 = cc in
+      let base : HasBase f (Local j) b = subst (λ (r : Root). HasBase f r b) (sym same) k.2 in
+      not_brought j ty h i b base.0 base.1 base.2 base.3
+  no_base (GlobalVal g) ty i h b k = true≢false (sym i ∙ ap is_integer h)
+
+  base_to : (v : Val) (b : Base) → HasValBase f v b → HasValBase f (val_with l by v) b
+  base_to (Num own m) b h = h
+  base_to (GlobalVal g) b h = h
+  base_to (LocalVal k) b h =
+      let other : (k.0 == l.0) ≡ false = ne_eqb k.0 l.0 (λ e. no_base (LocalVal l) w.ty w.integer w.local b (subst (λ (m : LocalNo). HasValBase f (LocalVal m) b) (is_number k l e) h)) in
+      subst (λ (v : Val). HasValBase f v b) (sym (cond-false (k.0 == l.0) by (LocalVal k) other)) h
+
+  base_from : (v : Val) (b : Base) → HasValBase f (val_with l by v) b → HasValBase f v b
+  base_from (Num own m) b h = h
+  base_from (GlobalVal g) b h = h
+  base_from (LocalVal k) b h =
+      ⊎_elim
+      (λ (t : (k.0 == l.0) ≡ true). absurd (no_base by w.ty w.integer w.value b (subst (λ (v : Val). HasValBase f v b) (cond-true (k.0 == l.0) by (LocalVal k) t) h)))
+      (λ (e : (k.0 == l.0) ≡ false). subst (λ (v : Val). HasValBase f v b) (cond-false (k.0 == l.0) by (LocalVal k) e) h)
+      (cases_Bool (k.0 == l.0))
+
+  lead_to : (args : List Arg) (b : Base) → LeadTo f args b → LeadTo f (map (arg_with l by) args) b
+  lead_to args b h = (arg_with l by h.0, map_in (arg_with l by) args h.0 h.1, base_to h.0.val b h.2)
+
+  lead_from : (args : List Arg) (b : Base) → LeadTo f (map (arg_with l by) args) b → LeadTo f args b
+  lead_from args b h =
+      let r = in_map (arg_with l by) args h.0 h.1 in
+      (r.0, r.1, base_from r.0.val b (subst (λ (a : Arg). HasValBase f a.val b) (sym r.2) h.2))
+
+  -- ---- makers
+
+  entries_lead : (ty : Ty) → is_pointer ty ≡ true → (es : List Entry) → AreValues f (map (entry_operand ty) es)
+      → pointers_in (map (λ (e : Entry). e.val) es) ≡ pointers_in (map (λ (e : Entry). e.val) (map (entry_with l by) es))
+  entries_lead ty t [] h = refl
+  entries_lead ty t (e ∷ es) h =
+      let first = stays_typed ty e.val t (h (entry_operand ty e) (here_in (entry_operand ty e) (map (entry_operand ty) es))) in
+      ap (λ v. with_pointer (pointer_of v) (pointers_in (map (λ (d : Entry). d.val) es))) (sym first)
+      ∙ ap (with_pointer (pointer_of (val_with l by e.val))) (entries_lead ty t es (λ o c. h o (there_in (entry_operand ty e) (map (entry_operand ty) es) o c)))
+
+  makes_with : (p : Inst) → AreValues f (operands_of p) → MakesAlike p (inst_with l by p)
+  makes_with (Gep base offset head index tail) h =
+      let same = sym (stays base (h (of_type Ptr base) (here_in (of_type Ptr base) []))) in
+      record { makes = refl; alloca = refl; step = λ e. ap (λ v. step_by offset (pointer_of v)) same; leads = λ e. ap (λ v. with_pointer (pointer_of v) []) same }
+  makes_with (StepInst base offset terms head index tail) h =
+      let same = sym (stays base (h (of_type Ptr base) (here_in (of_type Ptr base) _))) in
+      record { makes = refl; alloca = refl; step = λ e. refl; leads = λ e. ap (λ v. with_pointer (pointer_of v) []) same }
+  makes_with (Select test ty a b tail) h = record { makes = refl; alloca = refl; step = λ e. refl; leads = both }
+    where
+      both : is_pointer ty ≡ true → with_pointer (pointer_of a) (with_pointer (pointer_of b) []) ≡ with_pointer (pointer_of (val_with l by a)) (with_pointer (pointer_of (val_with l by b)) [])
+      both e =
+          let first = stays_typed ty a e (h (of_type ty a) (there_in (of_type I1 test) (of_type ty a ∷ of_type ty b ∷ []) (of_type ty a) (here_in (of_type ty a) (of_type ty b ∷ [])))) in
+          let second = stays_typed ty b e (h (of_type ty b) (there_in (of_type I1 test) (of_type ty a ∷ of_type ty b ∷ []) (of_type ty b) (there_in (of_type ty a) (of_type ty b ∷ []) (of_type ty b) (here_in (of_type ty b) [])))) in
+          ap (λ v. with_pointer (pointer_of v) (with_pointer (pointer_of b) [])) (sym first) ∙ ap (λ v. with_pointer (pointer_of (val_with l by a)) (with_pointer (pointer_of v) [])) (sym second)
+  makes_with (Phi ty entries tail) h = record { makes = refl; alloca = refl; step = λ e. refl; leads = λ e. entries_lead ty e entries h }
+  makes_with (AllocaInst size head tail) h = record { makes = refl; alloca = refl; step = λ e. refl; leads = λ e. refl }
+  makes_with (Load ty ptr tail) h = record { makes = refl; alloca = refl; step = λ e. refl; leads = λ e. refl }
+  makes_with (Store ty val ptr tail) h = record { makes = refl; alloca = refl; step = λ e. refl; leads = λ e. refl }
+  makes_with (Copy to from len head tail) h = record { makes = refl; alloca = refl; step = λ e. refl; leads = λ e. refl }
+  makes_with (Call callee ret args effects head tail) h = record { makes = refl; alloca = refl; step = λ e. refl; leads = λ e. refl }
+  makes_with (Bin op flags ty a b tail) h = record { makes = refl; alloca = refl; step = λ e. refl; leads = λ e. refl }
+  makes_with (Cmp pred flags ty a b tail) h = record { makes = refl; alloca = refl; step = λ e. refl; leads = λ e. refl }
+  makes_with (Cast op flags from a to tail) h = record { makes = refl; alloca = refl; step = λ e. refl; leads = λ e. refl }
+
+  module _ (sound : IsSoundFunc f) where
+    with_alike : Alike f (with_replaced f l by)
+    with_alike = record {
+      makers = λ m. makers_map (placed_with l by) (block_with l by) (insts_are l by) 0 f.blocks m (λ c b k x e. makes_local m x (placed_with l by x) refl (makes_with x.inst (sound.insts b k x e).operands) c);
+      params = refl;
+      edges = sym (edges_map (placed_with l by) (block_with l by) (insts_are l by) (λ b. successors_same l by b.term) f.blocks);
+    }
+
+    captured_to : (m : LocalNo) → IsCaptured f m → IsCaptured (with_replaced f l by) m
+    captured_to m h =
+        let k = h.4 in
+        let a = arg_with l by k.0 in (
+          h.0,
+          h.1,
+          placed_with l by h.2,
+          found_to (placed_with l by) (block_with l by) (insts_are l by) f.blocks h.0 h.1 h.2 h.3,
+          (
+            a,
+            subst (λ (args : List Arg). Contains args a) (sym (args_with l by h.2.inst)) (map_in (arg_with l by) (args_of h.2.inst) k.0 k.1),
+            k.2,
+            val_base f (with_replaced f l by) with_alike a.val (AllocaBase m) (base_to k.0.val (AllocaBase m) k.3),
+          ),
+        )
+
+    captured_from : (m : LocalNo) → IsCaptured (with_replaced f l by) m → IsCaptured f m
+    captured_from m h =
+        let k = h.4 in
+        let r = found_from (placed_with l by) (block_with l by) (insts_are l by) f.blocks h.0 h.1 h.2 h.3 in
+        let among = subst (λ (args : List Arg). Contains args k.0) (ap (λ (y : Placed). args_of y.inst) (sym r.2) ∙ args_with l by r.0.inst) k.1 in
+        let a = in_map (arg_with l by) (args_of r.0.inst) k.0 among in
+        let back = val_base (with_replaced f l by) f (alike_back f (with_replaced f l by) with_alike) k.0.val (AllocaBase m) k.3 in (
+          h.0,
+          h.1,
+          r.0,
+          r.1,
+          (a.0, a.1, ap (λ (z : Arg). z.keeps) a.2 ∙ k.2, base_from a.0.val (AllocaBase m) (subst (λ (z : Arg). HasValBase f z.val (AllocaBase m)) (sym a.2) back)),
+        )
+
+    with_both : Both f (with_replaced f l by)
+    with_both = record { alike = with_alike; captured = λ m. (captured_to m, captured_from m) }
+
+    pub replaced_tables : (a : AliasState) → IsAliasOf f a → IsAliasOf (with_replaced f l by) a
+    replaced_tables a is = tables_alike f (with_replaced f l by) a with_alike with_both.captured is
+
+    pub replaced_pointers : SamePointers f (with_replaced f l by)
+    replaced_pointers = pointers_both f (with_replaced f l by) with_both
