@@ -22,7 +22,7 @@ use Rattle.ms_ir.specs.Graph.{successors}
 use Rattle.ms_ir.specs.Inst.{result_type}
 use Rattle.ms_ir.specs.Locals.{IsNumbered, IsGiver, HasType}
 use Rattle.ms_ir.specs.Types.{is_integer, is_pointer, types_stand}
-use Rattle.ms_ir.specs.Uses.{Operand, of_type, entry_operand, operands_of}
+use Rattle.ms_ir.specs.Uses.{Operand, of_type, arg_operand, entry_operand, operands_of}
 use Rattle.ms_ir.specs.SoundFunc.{IsValueIn, AreValues, IsSoundFunc}
 use Rattle.ms_meaning.specs.Values.{size_of}
 use Rattle.ms_alias.specs.declared.loc.Root.{Root}
@@ -270,3 +270,251 @@ module _ (f : FuncState) (n : IsNumbered f) (l : LocalNo) (by : Val) (w : GivesW
 
     pub replaced_pointers : SamePointers f (with_replaced f l by)
     replaced_pointers = pointers_both f (with_replaced f l by) with_both
+
+    -- ---- accesses
+
+    called_to : (t : Bool) (args : List Arg) (other hidden : Bool)
+        → SameReach f (with_replaced f l by) (Called (cond t args []) other hidden) (Called (cond t (map (arg_with l by) args) []) other hidden)
+    called_to true args other hidden = (
+      map (arg_with l by) args,
+      refl,
+      λ b. (
+        λ h. lead f (with_replaced f l by) with_alike (map (arg_with l by) args) b (lead_to args b h),
+        λ h. lead_from args b (lead (with_replaced f l by) f (alike_back f (with_replaced f l by) with_alike) (map (arg_with l by) args) b h),
+      ),
+    )
+    called_to false args other hidden = reach_same f (with_replaced f l by) with_alike (Called [] other hidden)
+
+    called_from : (t : Bool) (args : List Arg) (other hidden : Bool)
+        → SameReach (with_replaced f l by) f (Called (cond t (map (arg_with l by) args) []) other hidden) (Called (cond t args []) other hidden)
+    called_from true args other hidden = (
+      args,
+      refl,
+      λ b. (
+        λ h. lead_from args b (lead (with_replaced f l by) f (alike_back f (with_replaced f l by) with_alike) (map (arg_with l by) args) b h),
+        λ h. lead f (with_replaced f l by) with_alike (map (arg_with l by) args) b (lead_to args b h),
+      ),
+    )
+    called_from false args other hidden = reach_same (with_replaced f l by) f (alike_back f (with_replaced f l by) with_alike) (Called [] other hidden)
+
+    span_to : (v : Val) (len : ℕ) (u : Reach) → val_with l by v ≡ v → IsSpan f v len u → IsSpan (with_replaced f l by) (val_with l by v) len u
+    span_to v len u e h = subst (λ (x : Val). IsSpan (with_replaced f l by) x len u) (sym e) (span_kept f (with_replaced f l by) with_alike v len u h)
+
+    span_from : (v : Val) (len : ℕ) (u : Reach) → val_with l by v ≡ v → IsSpan (with_replaced f l by) (val_with l by v) len u → IsSpan f v len u
+    span_from v len u e h = span_kept (with_replaced f l by) f (alike_back f (with_replaced f l by) with_alike) v len u (subst (λ (x : Val). IsSpan (with_replaced f l by) x len u) e h)
+
+    same_to : (u : Reach) → SameReach f (with_replaced f l by) u u
+    same_to u = reach_same f (with_replaced f l by) with_alike u
+
+    same_from : (u : Reach) → SameReach (with_replaced f l by) f u u
+    same_from u = reach_same (with_replaced f l by) f (alike_back f (with_replaced f l by) with_alike) u
+
+    -- the pointers that loads, stores and memcpys use
+    load_stays : (ty : Ty) (ptr : Val) (tail : List ℕ) → AreValues f (operands_of (Load ty ptr tail)) → val_with l by ptr ≡ ptr
+    load_stays ty ptr tail h = stays ptr (h (of_type Ptr ptr) (here_in (of_type Ptr ptr) []))
+
+    store_stays : (ty : Ty) (val ptr : Val) (tail : List ℕ) → AreValues f (operands_of (Store ty val ptr tail)) → val_with l by ptr ≡ ptr
+    store_stays ty val ptr tail h = stays ptr (h (of_type Ptr ptr) (there_in (of_type ty val) (of_type Ptr ptr ∷ []) (of_type Ptr ptr) (here_in (of_type Ptr ptr) [])))
+
+    to_stays : (to from : Arg) (len : ℕ) (head tail : List ℕ) → AreValues f (operands_of (Copy to from len head tail)) → types_stand (Copy to from len head tail) ≡ true → val_with l by to.val ≡ to.val
+    to_stays to from len head tail h t = stays_typed to.ty to.val (and_parts (is_pointer to.ty) (is_pointer from.ty) t).0 (h (arg_operand to) (here_in (arg_operand to) (arg_operand from ∷ [])))
+
+    from_stays : (to from : Arg) (len : ℕ) (head tail : List ℕ) → AreValues f (operands_of (Copy to from len head tail)) → types_stand (Copy to from len head tail) ≡ true → val_with l by from.val ≡ from.val
+    from_stays to from len head tail h t =
+        stays_typed from.ty from.val (and_parts (is_pointer to.ty) (is_pointer from.ty) t).1 (h (arg_operand from) (there_in (arg_operand to) (arg_operand from ∷ []) (arg_operand from) (here_in (arg_operand from) [])))
+
+    writes_to : (p : Inst) → AreValues f (operands_of p) → types_stand p ≡ true → WritesAlike f (with_replaced f l by) p (inst_with l by p)
+    writes_to (Store ty val ptr tail) h t u k = (u, span_to ptr (size_of ty) u (store_stays ty val ptr tail h) k, same_to u)
+    writes_to (Copy to from len head tail) h t u k = (u, span_to to.val len u (to_stays to from len head tail h t) k, same_to u)
+    writes_to (Call callee ret args effects head tail) h t u k = (
+      Called (cond effects.arg_write (map (arg_with l by) args) []) effects.other_write effects.hidden_write,
+      refl,
+      subst (λ (x : Reach). SameReach f (with_replaced f l by) x (Called (cond effects.arg_write (map (arg_with l by) args) []) effects.other_write effects.hidden_write)) (sym k)
+          (called_to effects.arg_write args effects.other_write effects.hidden_write),
+    )
+    writes_to (AllocaInst size head tail) h t u k = absurd k
+    writes_to (Gep base offset head index tail) h t u k = absurd k
+    writes_to (StepInst base offset terms head index tail) h t u k = absurd k
+    writes_to (Load ty ptr tail) h t u k = absurd k
+    writes_to (Bin op flags ty a b tail) h t u k = absurd k
+    writes_to (Cmp pred flags ty a b tail) h t u k = absurd k
+    writes_to (Select test ty a b tail) h t u k = absurd k
+    writes_to (Cast op flags from a to tail) h t u k = absurd k
+    writes_to (Phi ty entries tail) h t u k = absurd k
+
+    writes_from : (p : Inst) → AreValues f (operands_of p) → types_stand p ≡ true → WritesAlike (with_replaced f l by) f (inst_with l by p) p
+    writes_from (Store ty val ptr tail) h t u k = (u, span_from ptr (size_of ty) u (store_stays ty val ptr tail h) k, same_from u)
+    writes_from (Copy to from len head tail) h t u k = (u, span_from to.val len u (to_stays to from len head tail h t) k, same_from u)
+    writes_from (Call callee ret args effects head tail) h t u k = (
+      Called (cond effects.arg_write args []) effects.other_write effects.hidden_write,
+      refl,
+      subst (λ (x : Reach). SameReach (with_replaced f l by) f x (Called (cond effects.arg_write args []) effects.other_write effects.hidden_write)) (sym k)
+          (called_from effects.arg_write args effects.other_write effects.hidden_write),
+    )
+    writes_from (AllocaInst size head tail) h t u k = absurd k
+    writes_from (Gep base offset head index tail) h t u k = absurd k
+    writes_from (StepInst base offset terms head index tail) h t u k = absurd k
+    writes_from (Load ty ptr tail) h t u k = absurd k
+    writes_from (Bin op flags ty a b tail) h t u k = absurd k
+    writes_from (Cmp pred flags ty a b tail) h t u k = absurd k
+    writes_from (Select test ty a b tail) h t u k = absurd k
+    writes_from (Cast op flags from a to tail) h t u k = absurd k
+    writes_from (Phi ty entries tail) h t u k = absurd k
+
+    reads_to : (p : Inst) → AreValues f (operands_of p) → types_stand p ≡ true → ReadsAlike f (with_replaced f l by) p (inst_with l by p)
+    reads_to (Load ty ptr tail) h t u k = (u, span_to ptr (size_of ty) u (load_stays ty ptr tail h) k, same_to u)
+    reads_to (Copy to from len head tail) h t u k = (u, span_to from.val len u (from_stays to from len head tail h t) k, same_to u)
+    reads_to (Call callee ret args effects head tail) h t u k = (
+      Called (cond effects.arg_read (map (arg_with l by) args) []) effects.other_read effects.hidden_read,
+      refl,
+      subst (λ (x : Reach). SameReach f (with_replaced f l by) x (Called (cond effects.arg_read (map (arg_with l by) args) []) effects.other_read effects.hidden_read)) (sym k)
+          (called_to effects.arg_read args effects.other_read effects.hidden_read),
+    )
+    reads_to (AllocaInst size head tail) h t u k = absurd k
+    reads_to (Gep base offset head index tail) h t u k = absurd k
+    reads_to (StepInst base offset terms head index tail) h t u k = absurd k
+    reads_to (Store ty val ptr tail) h t u k = absurd k
+    reads_to (Bin op flags ty a b tail) h t u k = absurd k
+    reads_to (Cmp pred flags ty a b tail) h t u k = absurd k
+    reads_to (Select test ty a b tail) h t u k = absurd k
+    reads_to (Cast op flags from a to tail) h t u k = absurd k
+    reads_to (Phi ty entries tail) h t u k = absurd k
+
+    reads_from : (p : Inst) → AreValues f (operands_of p) → types_stand p ≡ true → ReadsAlike (with_replaced f l by) f (inst_with l by p) p
+    reads_from (Load ty ptr tail) h t u k = (u, span_from ptr (size_of ty) u (load_stays ty ptr tail h) k, same_from u)
+    reads_from (Copy to from len head tail) h t u k = (u, span_from from.val len u (from_stays to from len head tail h t) k, same_from u)
+    reads_from (Call callee ret args effects head tail) h t u k = (
+      Called (cond effects.arg_read args []) effects.other_read effects.hidden_read,
+      refl,
+      subst (λ (x : Reach). SameReach (with_replaced f l by) f x (Called (cond effects.arg_read args []) effects.other_read effects.hidden_read)) (sym k)
+          (called_from effects.arg_read args effects.other_read effects.hidden_read),
+    )
+    reads_from (AllocaInst size head tail) h t u k = absurd k
+    reads_from (Gep base offset head index tail) h t u k = absurd k
+    reads_from (StepInst base offset terms head index tail) h t u k = absurd k
+    reads_from (Store ty val ptr tail) h t u k = absurd k
+    reads_from (Bin op flags ty a b tail) h t u k = absurd k
+    reads_from (Cmp pred flags ty a b tail) h t u k = absurd k
+    reads_from (Select test ty a b tail) h t u k = absurd k
+    reads_from (Cast op flags from a to tail) h t u k = absurd k
+    reads_from (Phi ty entries tail) h t u k = absurd k
+
+    finds_writes_to : (i : ℕ) → Finds f (with_replaced f l by) (WritesAlike f (with_replaced f l by)) i
+    finds_writes_to i = finds_to (placed_with l by) (block_with l by) (insts_are l by) (number_same l by) f (with_replaced f l by) refl (WritesAlike f (with_replaced f l by)) i
+        (λ b k x at. let s = sound.insts b k x at.found in writes_to x.inst s.operands s.types)
+
+    finds_writes_from : (i : ℕ) → Finds (with_replaced f l by) f (WritesAlike (with_replaced f l by) f) i
+    finds_writes_from i = finds_from (placed_with l by) (block_with l by) (insts_are l by) (number_same l by) f (with_replaced f l by) refl (WritesAlike (with_replaced f l by) f) i
+        (λ b k x at. let s = sound.insts b k x at.found in writes_from x.inst s.operands s.types)
+
+    finds_reads_to : (i : ℕ) → Finds f (with_replaced f l by) (ReadsAlike f (with_replaced f l by)) i
+    finds_reads_to i = finds_to (placed_with l by) (block_with l by) (insts_are l by) (number_same l by) f (with_replaced f l by) refl (ReadsAlike f (with_replaced f l by)) i
+        (λ b k x at. let s = sound.insts b k x at.found in reads_to x.inst s.operands s.types)
+
+    finds_reads_from : (i : ℕ) → Finds (with_replaced f l by) f (ReadsAlike (with_replaced f l by) f) i
+    finds_reads_from i = finds_from (placed_with l by) (block_with l by) (insts_are l by) (number_same l by) f (with_replaced f l by) refl (ReadsAlike (with_replaced f l by) f) i
+        (λ b k x at. let s = sound.insts b k x at.found in reads_from x.inst s.operands s.types)
+
+    loc_to : (loc : Loc) → FindsLoc f (with_replaced f l by) loc
+    loc_to (Bytes root from len) = tt
+    loc_to (ReadBy j) = finds_reads_to j.0
+
+    loc_from : (loc : Loc) → FindsLoc (with_replaced f l by) f loc
+    loc_from (Bytes root from len) = tt
+    loc_from (ReadBy j) = finds_reads_from j.0
+
+    pub replaced_writes : (i : ℕ) (loc : Loc) → SameWrites f (with_replaced f l by) i loc
+    replaced_writes i loc = writes_between f (with_replaced f l by) with_both i loc (finds_writes_to i) (loc_to loc) (finds_writes_from i) (loc_from loc)
+
+    pub replaced_reads : (i : ℕ) (loc : Loc) → SameReads f (with_replaced f l by) i loc
+    replaced_reads i loc = reads_between f (with_replaced f l by) with_both i loc (finds_reads_to i) (loc_to loc) (finds_reads_from i) (loc_from loc)
+
+    -- ---- locations
+
+    loc_read_to : (i : InstNo) (loc : Loc) (p : Inst) → AreValues f (operands_of p) → types_stand p ≡ true → IsLocRead f i p loc → IsLocRead (with_replaced f l by) i (inst_with l by p) loc
+    loc_read_to i loc (Load ty ptr tail) h t k =
+        subst (λ (v : Val). IsLocRead (with_replaced f l by) i (Load ty v tail) loc) (sym (load_stays ty ptr tail h)) (loc_read f (with_replaced f l by) with_alike i (Load ty ptr tail) loc k)
+    loc_read_to i loc (Copy to from len head tail) h t k =
+        subst (λ (v : Val). IsLocRead (with_replaced f l by) i (Copy to (record from { val = v }) len head tail) loc) (sym (from_stays to from len head tail h t))
+        (loc_read f (with_replaced f l by) with_alike i (Copy to from len head tail) loc k)
+    loc_read_to i loc (Call callee ret args effects head tail) h t k = k
+    loc_read_to i loc (AllocaInst size head tail) h t k = absurd k
+    loc_read_to i loc (Gep base offset head index tail) h t k = absurd k
+    loc_read_to i loc (StepInst base offset terms head index tail) h t k = absurd k
+    loc_read_to i loc (Store ty val ptr tail) h t k = absurd k
+    loc_read_to i loc (Bin op flags ty a b tail) h t k = absurd k
+    loc_read_to i loc (Cmp pred flags ty a b tail) h t k = absurd k
+    loc_read_to i loc (Select test ty a b tail) h t k = absurd k
+    loc_read_to i loc (Cast op flags from a to tail) h t k = absurd k
+    loc_read_to i loc (Phi ty entries tail) h t k = absurd k
+
+    loc_read_from : (i : InstNo) (loc : Loc) (p : Inst) → AreValues f (operands_of p) → types_stand p ≡ true → IsLocRead (with_replaced f l by) i (inst_with l by p) loc → IsLocRead f i p loc
+    loc_read_from i loc (Load ty ptr tail) h t k =
+        loc_read (with_replaced f l by) f (alike_back f (with_replaced f l by) with_alike) i (Load ty ptr tail) loc (subst (λ (v : Val). IsLocRead (with_replaced f l by) i (Load ty v tail) loc) (load_stays ty ptr tail h) k)
+    loc_read_from i loc (Copy to from len head tail) h t k =
+        loc_read (with_replaced f l by) f (alike_back f (with_replaced f l by) with_alike) i (Copy to from len head tail) loc
+        (subst (λ (v : Val). IsLocRead (with_replaced f l by) i (Copy to (record from { val = v }) len head tail) loc) (from_stays to from len head tail h t) k)
+    loc_read_from i loc (Call callee ret args effects head tail) h t k = k
+    loc_read_from i loc (AllocaInst size head tail) h t k = absurd k
+    loc_read_from i loc (Gep base offset head index tail) h t k = absurd k
+    loc_read_from i loc (StepInst base offset terms head index tail) h t k = absurd k
+    loc_read_from i loc (Store ty val ptr tail) h t k = absurd k
+    loc_read_from i loc (Bin op flags ty a b tail) h t k = absurd k
+    loc_read_from i loc (Cmp pred flags ty a b tail) h t k = absurd k
+    loc_read_from i loc (Select test ty a b tail) h t k = absurd k
+    loc_read_from i loc (Cast op flags from a to tail) h t k = absurd k
+    loc_read_from i loc (Phi ty entries tail) h t k = absurd k
+
+    loc_written_to : (loc : Loc) (p : Inst) → AreValues f (operands_of p) → types_stand p ≡ true → IsLocWritten f p loc → IsLocWritten (with_replaced f l by) (inst_with l by p) loc
+    loc_written_to loc (Store ty val ptr tail) h t k =
+        subst (λ (v : Val). IsLocWritten (with_replaced f l by) (Store ty val v tail) loc) (sym (store_stays ty val ptr tail h)) (loc_written f (with_replaced f l by) with_alike (Store ty val ptr tail) loc k)
+    loc_written_to loc (Copy to from len head tail) h t k =
+        subst (λ (v : Val). IsLocWritten (with_replaced f l by) (Copy (record to { val = v }) from len head tail) loc) (sym (to_stays to from len head tail h t))
+        (loc_written f (with_replaced f l by) with_alike (Copy to from len head tail) loc k)
+    loc_written_to loc (Call callee ret args effects head tail) h t k = absurd k
+    loc_written_to loc (AllocaInst size head tail) h t k = absurd k
+    loc_written_to loc (Gep base offset head index tail) h t k = absurd k
+    loc_written_to loc (StepInst base offset terms head index tail) h t k = absurd k
+    loc_written_to loc (Load ty ptr tail) h t k = absurd k
+    loc_written_to loc (Bin op flags ty a b tail) h t k = absurd k
+    loc_written_to loc (Cmp pred flags ty a b tail) h t k = absurd k
+    loc_written_to loc (Select test ty a b tail) h t k = absurd k
+    loc_written_to loc (Cast op flags from a to tail) h t k = absurd k
+    loc_written_to loc (Phi ty entries tail) h t k = absurd k
+
+    loc_written_from : (loc : Loc) (p : Inst) → AreValues f (operands_of p) → types_stand p ≡ true → IsLocWritten (with_replaced f l by) (inst_with l by p) loc → IsLocWritten f p loc
+    loc_written_from loc (Store ty val ptr tail) h t k =
+        loc_written (with_replaced f l by) f (alike_back f (with_replaced f l by) with_alike) (Store ty val ptr tail) loc
+        (subst (λ (v : Val). IsLocWritten (with_replaced f l by) (Store ty val v tail) loc) (store_stays ty val ptr tail h) k)
+    loc_written_from loc (Copy to from len head tail) h t k =
+        loc_written (with_replaced f l by) f (alike_back f (with_replaced f l by) with_alike) (Copy to from len head tail) loc
+        (subst (λ (v : Val). IsLocWritten (with_replaced f l by) (Copy (record to { val = v }) from len head tail) loc) (to_stays to from len head tail h t) k)
+    loc_written_from loc (Call callee ret args effects head tail) h t k = absurd k
+    loc_written_from loc (AllocaInst size head tail) h t k = absurd k
+    loc_written_from loc (Gep base offset head index tail) h t k = absurd k
+    loc_written_from loc (StepInst base offset terms head index tail) h t k = absurd k
+    loc_written_from loc (Load ty ptr tail) h t k = absurd k
+    loc_written_from loc (Bin op flags ty a b tail) h t k = absurd k
+    loc_written_from loc (Cmp pred flags ty a b tail) h t k = absurd k
+    loc_written_from loc (Select test ty a b tail) h t k = absurd k
+    loc_written_from loc (Cast op flags from a to tail) h t k = absurd k
+    loc_written_from loc (Phi ty entries tail) h t k = absurd k
+
+    locs_to : (P Q : Inst → Type 0) → ((p : Inst) → AreValues f (operands_of p) → types_stand p ≡ true → P p → Q (inst_with l by p)) → (i : ℕ)
+        → (b : ℕ) × (place : ℕ) × (x : Placed) × IsAt f.blocks i b place x × P x.inst → (b : ℕ) × (place : ℕ) × (x : Placed) × IsAt (with_replaced f l by).blocks i b place x × Q x.inst
+    locs_to P Q each i h =
+        let s = sound.insts h.0 h.1 h.2 h.3.found in
+        (h.0, h.1, placed_with l by h.2, at_to (placed_with l by) (block_with l by) (insts_are l by) (number_same l by) f.blocks i h.0 h.1 h.2 h.3, each h.2.inst s.operands s.types h.4)
+
+    locs_from : (P Q : Inst → Type 0) → ((p : Inst) → AreValues f (operands_of p) → types_stand p ≡ true → Q (inst_with l by p) → P p) → (i : ℕ)
+        → (b : ℕ) × (place : ℕ) × (x : Placed) × IsAt (with_replaced f l by).blocks i b place x × Q x.inst → (b : ℕ) × (place : ℕ) × (x : Placed) × IsAt f.blocks i b place x × P x.inst
+    locs_from P Q each i h =
+        let r = at_from (placed_with l by) (block_with l by) (insts_are l by) (number_same l by) f.blocks i h.0 h.1 h.2 h.3 in
+        let s = sound.insts h.0 h.1 r.0 r.1.found in
+        (h.0, h.1, r.0, r.1, each r.0.inst s.operands s.types (subst (λ (y : Placed). Q y.inst) (sym r.2) h.4))
+
+    pub replaced_locs : (i : InstNo) → SameLocs f (with_replaced f l by) i
+    replaced_locs i = record {
+      reads = λ loc. (locs_to (λ p. IsLocRead f i p loc) (λ p. IsLocRead (with_replaced f l by) i p loc) (loc_read_to i loc) i.0, locs_from (λ p. IsLocRead f i p loc) (λ p. IsLocRead (with_replaced f l by) i p loc) (loc_read_from i loc) i.0);
+      writes = λ loc. (locs_to (λ p. IsLocWritten f p loc) (λ p. IsLocWritten (with_replaced f l by) p loc) (loc_written_to loc) i.0, locs_from (λ p. IsLocWritten f p loc) (λ p. IsLocWritten (with_replaced f l by) p loc) (loc_written_from loc) i.0);
+    }

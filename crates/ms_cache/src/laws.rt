@@ -44,9 +44,12 @@ pub fn source_kept()
     ensures read { (f : FuncState) (n : ℕ) (arg : Arg) (i : InstNo) (loc : Loc) → i.0 ≢ n → ReadsLoc f i loc ↔ ReadsLoc (with_source f n arg) i loc }
 {}
 
-/// Where each use of a local that holds numbers became a use of a value of its type, the tables are the function's without any call, and its pointers are
-/// the same.
+/// Where each use of a local that holds numbers became a use of a value of its type, the tables are the function's without any call, its pointers are the
+/// same, and each instruction reads and writes what it did.
 pub fn replace_kept()
     ensures tables { (f : FuncState) → IsNumbered f → (l : LocalNo) (by : Val) → GivesWay f l by → IsSoundFunc f → (a : AliasState) → IsAliasOf f a → IsAliasOf (with_replaced f l by) a }
     ensures pointers { (f : FuncState) → IsNumbered f → (l : LocalNo) (by : Val) → GivesWay f l by → IsSoundFunc f → SamePointers f (with_replaced f l by) }
+    ensures writes { (f : FuncState) → IsNumbered f → (l : LocalNo) (by : Val) → GivesWay f l by → IsSoundFunc f → (i : ℕ) (loc : Loc) → SameWrites f (with_replaced f l by) i loc }
+    ensures reads { (f : FuncState) → IsNumbered f → (l : LocalNo) (by : Val) → GivesWay f l by → IsSoundFunc f → (i : ℕ) (loc : Loc) → SameReads f (with_replaced f l by) i loc }
+    ensures locations { (f : FuncState) → IsNumbered f → (l : LocalNo) (by : Val) → GivesWay f l by → IsSoundFunc f → (i : InstNo) → SameLocs f (with_replaced f l by) i }
 {}
