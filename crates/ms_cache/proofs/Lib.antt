@@ -8,3 +8,4 @@ pub mod Shifted
 pub mod Mapped
 pub mod Sourced
 pub mod Replaced
+pub mod Taken

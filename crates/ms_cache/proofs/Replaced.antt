@@ -48,7 +48,7 @@ here_in x xs = (zero, omega arith, refl)
 there_in : {A : Type 0} (y : A) (xs : List A) (x : A) → Contains xs x → Contains (y ∷ xs) x
 there_in y xs x h = (suc h.0, let lt = h.1 in omega arith, h.2)
 
-none_in : {A : Type 0} (x : A) → Contains [] x → ⊥
+pub none_in : {A : Type 0} (x : A) → Contains [] x → ⊥
 none_in x h = let below : h.0 < 0 = h.1 in omega arith
 
 map_in : {A B : Type 0} (p : A → B) (xs : List A) (x : A) → Contains xs x → Contains (map p xs) (p x)
@@ -124,10 +124,10 @@ args_with l by (Select test ty a b tail) = refl
 args_with l by (Cast op flags from a to tail) = refl
 args_with l by (Phi ty entries tail) = refl
 
-insts_are : (l : LocalNo) (by : Val) (b : Block) → (block_with l by b).insts ≡ map (placed_with l by) b.insts
+pub insts_are : (l : LocalNo) (by : Val) (b : Block) → (block_with l by b).insts ≡ map (placed_with l by) b.insts
 insts_are l by b = refl
 
-number_same : (l : LocalNo) (by : Val) (x : Placed) → (placed_with l by x).number ≡ x.number
+pub number_same : (l : LocalNo) (by : Val) (x : Placed) → (placed_with l by x).number ≡ x.number
 number_same l by x = refl
 
 module _ (f : FuncState) (n : IsNumbered f) (l : LocalNo) (by : Val) (w : GivesWay f l by) where

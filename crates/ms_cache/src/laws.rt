@@ -1,20 +1,23 @@
 // Laws of kept answers and of kept tables, the contracts of a function that does nothing.
-ghost use Rattle.std.specs.Prelude.{◌≡◌, ◌≢◌, ◌↔◌, ◌<◌, ℕ, length, List, Contains};
+ghost use Rattle.std.specs.Prelude.{◌≡◌, ◌≢◌, ◌↔◌, ◌<◌, ℕ, false, length, List, [], Contains};
 ghost use Rattle.ms_ir.specs.declared.names.InstNo.{InstNo};
 ghost use Rattle.ms_ir.specs.declared.names.LocalNo.{LocalNo};
 ghost use Rattle.ms_ir.specs.declared.inst.Arg.{Arg};
 ghost use Rattle.ms_ir.specs.declared.inst.Val.{Val};
-ghost use Rattle.ms_ir.specs.Func.{FuncState, IsShifted};
+ghost use Rattle.ms_ir.specs.declared.inst.Inst.{Inst};
+ghost use Rattle.ms_ir.specs.Func.{FuncState, IsShifted, IsTaken};
 ghost use Rattle.ms_ir.specs.Changes.{with_source, with_replaced};
 ghost use Rattle.ms_ir.specs.Locals.{IsNumbered};
 ghost use Rattle.ms_ir.specs.SoundFunc.{IsSoundFunc};
 ghost use Rattle.ms_alias.specs.declared.loc.Loc.{Loc};
 ghost use Rattle.ms_alias.specs.declared.loc.Loc.TheVariants.{ReadBy};
+ghost use Rattle.ms_alias.specs.Roots.{makes_pointer};
+ghost use Rattle.ms_alias.specs.Captured.{args_of};
 ghost use Rattle.ms_alias.specs.Reaches.{ReadsLoc, WritesLoc};
 ghost use Rattle.ms_alias.specs.Tables.{AliasState, IsAliasOf};
 ghost use Rattle.ms_cache.specs.declared.change.Change.{Change};
 ghost use Rattle.ms_cache.specs.Stays.{Kept, Stays, AreOnce, AreWhatStays};
-ghost use Rattle.ms_cache.specs.Edited.{MakesNone, GivesWay, SamePointers, SameWrites, SameReads, SameLocs};
+ghost use Rattle.ms_cache.specs.Edited.{MakesNone, GivesWay, IsLoadGone, SamePointers, SameWrites, SameReads, SameLocs};
 
 /// Exactly those answers are left that were kept and stay; none stands twice; and there is one list of them alone.
 pub fn stays_told()
@@ -52,4 +55,28 @@ pub fn replace_kept()
     ensures writes { (f : FuncState) → IsNumbered f → (l : LocalNo) (by : Val) → GivesWay f l by → IsSoundFunc f → (i : ℕ) (loc : Loc) → SameWrites f (with_replaced f l by) i loc }
     ensures reads { (f : FuncState) → IsNumbered f → (l : LocalNo) (by : Val) → GivesWay f l by → IsSoundFunc f → (i : ℕ) (loc : Loc) → SameReads f (with_replaced f l by) i loc }
     ensures locations { (f : FuncState) → IsNumbered f → (l : LocalNo) (by : Val) → GivesWay f l by → IsSoundFunc f → (i : InstNo) → SameLocs f (with_replaced f l by) i }
+{}
+
+/// Where an instruction was taken that makes no pointer and passes none to a call, the tables are the function's without any call, its pointers are the
+/// same, and each other instruction reads and writes what it did.
+pub fn take_kept()
+    ensures tables { (f g : FuncState) (n : ℕ) (inst : Inst) → IsTaken f g n inst → makes_pointer inst ≡ false → args_of inst ≡ [] → (a : AliasState) → IsAliasOf f a → IsAliasOf g a }
+    ensures pointers { (f g : FuncState) (n : ℕ) (inst : Inst) → IsTaken f g n inst → makes_pointer inst ≡ false → args_of inst ≡ [] → SamePointers f g }
+    ensures writes { (f g : FuncState) (n : ℕ) (inst : Inst) → IsTaken f g n inst → makes_pointer inst ≡ false → args_of inst ≡ []
+        → (i : ℕ) (loc : Loc) → i ≢ n → loc ≢ ReadBy (record { 0 = n }) → SameWrites f g i loc }
+    ensures reads { (f g : FuncState) (n : ℕ) (inst : Inst) → IsTaken f g n inst → makes_pointer inst ≡ false → args_of inst ≡ []
+        → (i : ℕ) (loc : Loc) → i ≢ n → loc ≢ ReadBy (record { 0 = n }) → SameReads f g i loc }
+    ensures locations { (f g : FuncState) (n : ℕ) (inst : Inst) → IsTaken f g n inst → makes_pointer inst ≡ false → args_of inst ≡ [] → (i : InstNo) → i.0 ≢ n → SameLocs f g i }
+{}
+
+/// Where a load's result gave way to a value of its type and then the load was taken, the tables are the function's without any call, its pointers are the
+/// same, and each other instruction reads and writes what it did.
+pub fn load_gone()
+    ensures tables { (f g : FuncState) (n : ℕ) (by : Val) → IsNumbered f → IsSoundFunc f → IsLoadGone f g n by → (a : AliasState) → IsAliasOf f a → IsAliasOf g a }
+    ensures pointers { (f g : FuncState) (n : ℕ) (by : Val) → IsNumbered f → IsSoundFunc f → IsLoadGone f g n by → SamePointers f g }
+    ensures writes { (f g : FuncState) (n : ℕ) (by : Val) → IsNumbered f → IsSoundFunc f → IsLoadGone f g n by
+        → (i : ℕ) (loc : Loc) → i ≢ n → loc ≢ ReadBy (record { 0 = n }) → SameWrites f g i loc }
+    ensures reads { (f g : FuncState) (n : ℕ) (by : Val) → IsNumbered f → IsSoundFunc f → IsLoadGone f g n by
+        → (i : ℕ) (loc : Loc) → i ≢ n → loc ≢ ReadBy (record { 0 = n }) → SameReads f g i loc }
+    ensures locations { (f g : FuncState) (n : ℕ) (by : Val) → IsNumbered f → IsSoundFunc f → IsLoadGone f g n by → (i : InstNo) → i.0 ≢ n → SameLocs f g i }
 {}
