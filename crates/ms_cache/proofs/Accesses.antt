@@ -204,33 +204,42 @@ pointers_both f g s =
 
 -- ---- the same instructions
 
+abbrev pub RootsStay : FuncState → FuncState → Type 0
+RootsStay f g = (p r : Root) (o : ℤ) → HasRoot f p r o → HasRoot g p r o
+
+pub loc_read_by : (f g : FuncState) → RootsStay f g → (i : InstNo) (p : Inst) (loc : Loc) → IsLocRead f i p loc → IsLocRead g i p loc
+loc_read_by f g s i (Load ty ptr tail) loc h = (h.0, h.1, h.2, h.3, s h.0 h.2 h.3 h.4, h.5)
+loc_read_by f g s i (Copy to from len head tail) loc h = (h.0, h.1, h.2, h.3, s h.0 h.2 h.3 h.4, h.5)
+loc_read_by f g s i (Call callee ret args effects head tail) loc h = h
+loc_read_by f g s i (AllocaInst size head tail) loc h = h
+loc_read_by f g s i (Gep base offset head index tail) loc h = h
+loc_read_by f g s i (StepInst base offset terms head index tail) loc h = h
+loc_read_by f g s i (Store ty val ptr tail) loc h = h
+loc_read_by f g s i (Bin op flags ty a b tail) loc h = h
+loc_read_by f g s i (Cmp pred flags ty a b tail) loc h = h
+loc_read_by f g s i (Select cond ty a b tail) loc h = h
+loc_read_by f g s i (Cast op flags from a to tail) loc h = h
+loc_read_by f g s i (Phi ty entries tail) loc h = h
+
+pub loc_written_by : (f g : FuncState) → RootsStay f g → (p : Inst) (loc : Loc) → IsLocWritten f p loc → IsLocWritten g p loc
+loc_written_by f g s (Store ty val ptr tail) loc h = (h.0, h.1, h.2, h.3, s h.0 h.2 h.3 h.4, h.5)
+loc_written_by f g s (Copy to from len head tail) loc h = (h.0, h.1, h.2, h.3, s h.0 h.2 h.3 h.4, h.5)
+loc_written_by f g s (Load ty ptr tail) loc h = h
+loc_written_by f g s (Call callee ret args effects head tail) loc h = h
+loc_written_by f g s (AllocaInst size head tail) loc h = h
+loc_written_by f g s (Gep base offset head index tail) loc h = h
+loc_written_by f g s (StepInst base offset terms head index tail) loc h = h
+loc_written_by f g s (Bin op flags ty a b tail) loc h = h
+loc_written_by f g s (Cmp pred flags ty a b tail) loc h = h
+loc_written_by f g s (Select cond ty a b tail) loc h = h
+loc_written_by f g s (Cast op flags from a to tail) loc h = h
+loc_written_by f g s (Phi ty entries tail) loc h = h
+
 pub loc_read : (f g : FuncState) → Alike f g → (i : InstNo) (p : Inst) (loc : Loc) → IsLocRead f i p loc → IsLocRead g i p loc
-loc_read f g s i (Load ty ptr tail) loc h = (h.0, h.1, h.2, h.3, root_alike f g s h.0 h.2 h.3 h.4, h.5)
-loc_read f g s i (Copy to from len head tail) loc h = (h.0, h.1, h.2, h.3, root_alike f g s h.0 h.2 h.3 h.4, h.5)
-loc_read f g s i (Call callee ret args effects head tail) loc h = h
-loc_read f g s i (AllocaInst size head tail) loc h = h
-loc_read f g s i (Gep base offset head index tail) loc h = h
-loc_read f g s i (StepInst base offset terms head index tail) loc h = h
-loc_read f g s i (Store ty val ptr tail) loc h = h
-loc_read f g s i (Bin op flags ty a b tail) loc h = h
-loc_read f g s i (Cmp pred flags ty a b tail) loc h = h
-loc_read f g s i (Select cond ty a b tail) loc h = h
-loc_read f g s i (Cast op flags from a to tail) loc h = h
-loc_read f g s i (Phi ty entries tail) loc h = h
+loc_read f g s = loc_read_by f g (root_alike f g s)
 
 pub loc_written : (f g : FuncState) → Alike f g → (p : Inst) (loc : Loc) → IsLocWritten f p loc → IsLocWritten g p loc
-loc_written f g s (Store ty val ptr tail) loc h = (h.0, h.1, h.2, h.3, root_alike f g s h.0 h.2 h.3 h.4, h.5)
-loc_written f g s (Copy to from len head tail) loc h = (h.0, h.1, h.2, h.3, root_alike f g s h.0 h.2 h.3 h.4, h.5)
-loc_written f g s (Load ty ptr tail) loc h = h
-loc_written f g s (Call callee ret args effects head tail) loc h = h
-loc_written f g s (AllocaInst size head tail) loc h = h
-loc_written f g s (Gep base offset head index tail) loc h = h
-loc_written f g s (StepInst base offset terms head index tail) loc h = h
-loc_written f g s (Bin op flags ty a b tail) loc h = h
-loc_written f g s (Cmp pred flags ty a b tail) loc h = h
-loc_written f g s (Select cond ty a b tail) loc h = h
-loc_written f g s (Cast op flags from a to tail) loc h = h
-loc_written f g s (Phi ty entries tail) loc h = h
+loc_written f g s = loc_written_by f g (root_alike f g s)
 
 pub insts_back : (f g : FuncState) → SameInsts f g → SameInsts g f
 insts_back f g s y = ((s y).1, (s y).0)

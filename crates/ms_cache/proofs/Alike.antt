@@ -70,21 +70,31 @@ leads_alike : (f g : FuncState) → Alike f g → (p : Root) → leads_of f p �
 leads_alike f g s (Local l) = leads_seen (maker_of f l) (maker_of g l) (s.makers l)
 leads_alike f g s (Global n) = refl
 
-back_alike : (f g : FuncState) → Alike f g → (n : ℕ) (p q : Root) → LeadsBack f n p q → LeadsBack g n p q
-back_alike f g s zero p q h = h
-back_alike f g s (suc n) p q h = (h.0, sym (step_alike f g s p) ∙ h.1, back_alike f g s n h.0.base q h.2)
+-- the same getelementptrs lead back from each pointer
+pub record SameSteps (f g : FuncState) : Type 0 where
+  pub each : (p : Root) → step_of f p ≡ step_of g p
 
-end_alike : (f g : FuncState) → Alike f g → (p : Root) → IsEnd f p → IsEnd g p
-end_alike f g s p (inl e) = inl (sym (step_alike f g s p) ∙ e)
-end_alike f g s p (inr r) = inr (r.0, back_alike f g s (suc r.0) p p r.1)
+steps_back : (f g : FuncState) → SameSteps f g → SameSteps g f
+steps_back f g s = record { each = λ p. sym (s.each p) }
 
-after_alike : (f g : FuncState) → Alike f g → (n : ℕ) (p r : Root) (o : ℤ) → IsRootAfter f n p r o → IsRootAfter g n p r o
-after_alike f g s zero p r o h = (h.0, h.1, end_alike f g s p h.2)
-after_alike f g s (suc n) p r o h =
-    ((λ e. h.0 (end_alike g f (alike_back f g s) p e)), h.1, sym (step_alike f g s p) ∙ h.2, h.3, after_alike f g s n h.1.base r h.3 h.4, h.5)
+back_kept : (f g : FuncState) → SameSteps f g → (n : ℕ) (p q : Root) → LeadsBack f n p q → LeadsBack g n p q
+back_kept f g s zero p q h = h
+back_kept f g s (suc n) p q h = (h.0, sym (s.each p) ∙ h.1, back_kept f g s n h.0.base q h.2)
+
+end_kept : (f g : FuncState) → SameSteps f g → (p : Root) → IsEnd f p → IsEnd g p
+end_kept f g s p (inl e) = inl (sym (s.each p) ∙ e)
+end_kept f g s p (inr r) = inr (r.0, back_kept f g s (suc r.0) p p r.1)
+
+after_kept : (f g : FuncState) → SameSteps f g → (n : ℕ) (p r : Root) (o : ℤ) → IsRootAfter f n p r o → IsRootAfter g n p r o
+after_kept f g s zero p r o h = (h.0, h.1, end_kept f g s p h.2)
+after_kept f g s (suc n) p r o h =
+    ((λ e. h.0 (end_kept g f (steps_back f g s) p e)), h.1, sym (s.each p) ∙ h.2, h.3, after_kept f g s n h.1.base r h.3 h.4, h.5)
+
+pub root_kept : (f g : FuncState) → SameSteps f g → (p r : Root) (o : ℤ) → HasRoot f p r o → HasRoot g p r o
+root_kept f g s p r o h = (h.0, after_kept f g s h.0 p r o h.1)
 
 pub root_alike : (f g : FuncState) → Alike f g → (p r : Root) (o : ℤ) → HasRoot f p r o → HasRoot g p r o
-root_alike f g s p r o h = (h.0, after_alike f g s h.0 p r o h.1)
+root_alike f g s = root_kept f g (record { each = step_alike f g s })
 
 brought_alike : (f g : FuncState) → Alike f g → (n : ℕ) (p q : Root) → IsBrought f n p q → IsBrought g n p q
 brought_alike f g s zero p q h = h

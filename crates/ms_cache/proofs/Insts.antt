@@ -114,7 +114,7 @@ of_put (z ∷ zs) (suc p) x (suc k) y e =
     (of_put zs p x k y e)
 
 -- an instruction of the new block, or one that was there
-set_from : (blocks : List Block) (b : ℕ) (new : Block) (c k : ℕ) (y : Placed) → slice_get (insts_at (set blocks b new) c) k ≡ Some y
+pub set_from : (blocks : List Block) (b : ℕ) (new : Block) (c k : ℕ) (y : Placed) → slice_get (insts_at (set blocks b new) c) k ≡ Some y
     → ((j : ℕ) × (slice_get new.insts j ≡ Some y)) ⊎ Has blocks y
 set_from [] b new c k y e = cc
 set_from (x ∷ xs) zero new zero k y e = inl (k, e)
@@ -127,7 +127,7 @@ set_from (x ∷ xs) (suc b) new (suc c) k y e =
     (set_from xs b new c k y e)
 
 -- one that was there stays, where the new block has it if it was that block's
-set_to : (blocks : List Block) (b : ℕ) (new : Block) (P : Type 0) (c k : ℕ) (y : Placed) → slice_get (insts_at blocks c) k ≡ Some y
+pub set_to : (blocks : List Block) (b : ℕ) (new : Block) (P : Type 0) (c k : ℕ) (y : Placed) → slice_get (insts_at blocks c) k ≡ Some y
     → ((j : ℕ) → slice_get (insts_at blocks b) j ≡ Some y → P ⊎ ((i : ℕ) × (slice_get new.insts i ≡ Some y))) → P ⊎ Has (set blocks b new) y
 set_to [] b new P c k y e h = cc
 set_to (x ∷ xs) zero new P zero k y e h =
@@ -143,7 +143,7 @@ set_to (x ∷ xs) (suc b) new P (suc c) k y e h =
     (λ (r : Has (set xs b new) y). inr (suc r.0, r.1, r.2))
     (set_to xs b new P c k y e h)
 
-set_here : (blocks : List Block) (b : ℕ) (new : Block) (k : ℕ) (y : Placed) → b < length blocks → slice_get new.insts k ≡ Some y → Has (set blocks b new) y
+pub set_here : (blocks : List Block) (b : ℕ) (new : Block) (k : ℕ) (y : Placed) → b < length blocks → slice_get new.insts k ≡ Some y → Has (set blocks b new) y
 set_here [] b new k y lt e = absurd (omega arith)
 set_here (x ∷ xs) zero new k y lt e = (zero, k, e)
 set_here (x ∷ xs) (suc b) new k y lt e = let r = set_here xs b new k y (omega arith) e in (suc r.0, r.1, r.2)

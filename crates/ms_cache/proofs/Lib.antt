@@ -9,3 +9,5 @@ pub mod Mapped
 pub mod Sourced
 pub mod Replaced
 pub mod Taken
+pub mod Cut
+pub mod Told

@@ -43,12 +43,12 @@ seen_or None (Some n) q r h k = cc
 seen_or (Some m) None q r h k = cc
 seen_or (Some m) (Some n) q r h k = h
 
-slice_map : (p : Placed → Placed) (xs : List Placed) (k : ℕ) (x : Placed) → slice_get xs k ≡ Some x → slice_get (map p xs) k ≡ Some (p x)
+pub slice_map : (p : Placed → Placed) (xs : List Placed) (k : ℕ) (x : Placed) → slice_get xs k ≡ Some x → slice_get (map p xs) k ≡ Some (p x)
 slice_map p [] k x e = cc
 slice_map p (y ∷ ys) zero x e = let same : y ≡ x = cc in ap Some (ap p same)
 slice_map p (y ∷ ys) (suc k) x e = slice_map p ys k x e
 
-map_slice : (p : Placed → Placed) (xs : List Placed) (k : ℕ) (y : Placed) → slice_get (map p xs) k ≡ Some y → (x : Placed) × (slice_get xs k ≡ Some x) × (p x ≡ y)
+pub map_slice : (p : Placed → Placed) (xs : List Placed) (k : ℕ) (y : Placed) → slice_get (map p xs) k ≡ Some y → (x : Placed) × (slice_get xs k ≡ Some x) × (p x ≡ y)
 map_slice p [] k y e = cc
 map_slice p (x ∷ xs) zero y e = (x, refl, cc)
 map_slice p (x ∷ xs) (suc k) y e = map_slice p xs k y e

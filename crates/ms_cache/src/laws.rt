@@ -1,20 +1,23 @@
 // Laws of kept answers and of kept tables, the contracts of a function that does nothing.
-ghost use Rattle.std.specs.Prelude.{◌≡◌, ◌≢◌, ◌↔◌, ◌<◌, ℕ, false, length, List, [], Contains};
+ghost use Rattle.std.specs.Prelude.{◌≡◌, ◌≢◌, ◌↔◌, ◌<◌, ℕ, ℤ, true, false, length, List, [], Contains};
 ghost use Rattle.ms_ir.specs.declared.names.InstNo.{InstNo};
 ghost use Rattle.ms_ir.specs.declared.names.LocalNo.{LocalNo};
 ghost use Rattle.ms_ir.specs.declared.inst.Arg.{Arg};
 ghost use Rattle.ms_ir.specs.declared.inst.Val.{Val};
 ghost use Rattle.ms_ir.specs.declared.inst.Inst.{Inst};
-ghost use Rattle.ms_ir.specs.Func.{FuncState, IsShifted, IsTaken};
-ghost use Rattle.ms_ir.specs.Changes.{with_source, with_replaced};
+ghost use Rattle.ms_ir.specs.Func.{Placed, FuncState, IsAt, IsShifted, IsTaken};
+ghost use Rattle.ms_ir.specs.Changes.{with_source, with_replaced, with_edge_cut};
+ghost use Rattle.ms_ir.specs.Edits.{is_movable};
 ghost use Rattle.ms_ir.specs.Locals.{IsNumbered};
 ghost use Rattle.ms_ir.specs.SoundFunc.{IsSoundFunc};
+ghost use Rattle.ms_alias.specs.declared.loc.Root.{Root};
 ghost use Rattle.ms_alias.specs.declared.loc.Loc.{Loc};
 ghost use Rattle.ms_alias.specs.declared.loc.Loc.TheVariants.{ReadBy};
-ghost use Rattle.ms_alias.specs.Roots.{makes_pointer};
+ghost use Rattle.ms_alias.specs.Roots.{makes_pointer, HasRoot};
 ghost use Rattle.ms_alias.specs.Captured.{args_of};
 ghost use Rattle.ms_alias.specs.Reaches.{ReadsLoc, WritesLoc};
-ghost use Rattle.ms_alias.specs.Tables.{AliasState, IsAliasOf};
+ghost use Rattle.ms_alias.specs.Tables.{AliasState, IsAliasOf, IsReady};
+ghost use Rattle.ms_alias.specs.Tests.{may_write_by, may_read_by, may_write_in_turn_by};
 ghost use Rattle.ms_cache.specs.declared.change.Change.{Change};
 ghost use Rattle.ms_cache.specs.Stays.{Kept, Stays, AreOnce, AreWhatStays};
 ghost use Rattle.ms_cache.specs.Edited.{MakesNone, GivesWay, IsLoadGone, SamePointers, SameWrites, SameReads, SameLocs};
@@ -79,4 +82,25 @@ pub fn load_gone()
     ensures reads { (f g : FuncState) (n : ℕ) (by : Val) → IsNumbered f → IsSoundFunc f → IsLoadGone f g n by
         → (i : ℕ) (loc : Loc) → i ≢ n → loc ≢ ReadBy (record { 0 = n }) → SameReads f g i loc }
     ensures locations { (f g : FuncState) (n : ℕ) (by : Val) → IsNumbered f → IsSoundFunc f → IsLoadGone f g n by → (i : InstNo) → i.0 ≢ n → SameLocs f g i }
+{}
+
+/// Where an edge was cut the tables are ready to be renewed; each pointer has the same root and offset, and each instruction has the same locations.
+pub fn cut_kept()
+    ensures ready { (f : FuncState) (a : AliasState) (b slot : ℕ) → IsAliasOf f a → IsReady (with_edge_cut f b slot) a }
+    ensures roots { (f : FuncState) (b slot : ℕ) (p r : Root) (offset : ℤ) → HasRoot f p r offset ↔ HasRoot (with_edge_cut f b slot) p r offset }
+    ensures locations { (f : FuncState) (b slot : ℕ) (i : InstNo) → SameLocs f (with_edge_cut f b slot) i }
+{}
+
+/// An instruction that may be moved makes no pointer, and one instruction alone has a number.
+pub fn makes_none()
+    ensures movable { (inst : Inst) → is_movable inst ≡ true → makes_pointer inst ≡ false }
+    ensures one { (f : FuncState) (n b place : ℕ) (x : Placed) → IsNumbered f → IsAt f.blocks n b place x → makes_pointer x.inst ≡ false → MakesNone f n }
+{}
+
+/// Where the tables are those of two functions, what may write or read a location in both or in neither passes the same test.
+pub fn tests_kept()
+    ensures writes { (f g : FuncState) (a : AliasState) → IsAliasOf f a → IsAliasOf g a → (i : ℕ) (loc : Loc) → SameWrites f g i loc → may_write_by f a loc i ≡ may_write_by g a loc i }
+    ensures in_turn { (f g : FuncState) (a : AliasState) → IsAliasOf f a → IsAliasOf g a → (i : ℕ) (loc : Loc) → SameWrites f g i loc
+        → may_write_in_turn_by f a loc i ≡ may_write_in_turn_by g a loc i }
+    ensures reads { (f g : FuncState) (a : AliasState) → IsAliasOf f a → IsAliasOf g a → (i : ℕ) (loc : Loc) → SameReads f g i loc → may_read_by f a loc i ≡ may_read_by g a loc i }
 {}
