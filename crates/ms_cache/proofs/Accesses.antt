@@ -9,9 +9,10 @@ use Rattle.ms_ir.specs.declared.inst.Inst.{Inst}
 use Rattle.ms_ir.specs.declared.inst.Inst.TheVariants.{Alloca as AllocaInst, Gep, Step as StepInst, Load, Store, Copy, Call, Bin, Cmp, Select, Cast, Phi}
 use Rattle.ms_ir.specs.Func.{Placed, FuncState, IsAt, insts_at}
 use Rattle.ms_alias.specs.declared.loc.Root.{Root}
+use Rattle.ms_alias.specs.declared.loc.Root.TheVariants.{Local, Global}
 use Rattle.ms_alias.specs.declared.loc.Loc.{Loc}
 use Rattle.ms_alias.specs.declared.loc.Loc.TheVariants.{Bytes, ReadBy}
-use Rattle.ms_alias.specs.Roots.{HasRoot, IsTurning, IsFixed}
+use Rattle.ms_alias.specs.Roots.{makes, HasRoot, IsTurning, IsTurnedBy, IsFixed}
 use Rattle.ms_alias.specs.Bases.{Base, Alloca as AllocaBase, Argument as ArgumentBase, Object as ObjectBase, Outside, Hidden, HasBase, HasValBase}
 use Rattle.ms_alias.specs.Captured.{IsCaptured, IsKept}
 use Rattle.ms_alias.specs.Reaches.{Reach, Span, Called, IsSpan, IsRead, IsWritten, IsReachOf, IsKnown, IsReached, IsLocRead, IsLocWritten, ReadsLoc, WritesLoc}
@@ -192,13 +193,22 @@ may_read_kept f g s i loc t l h =
     let v = reach_of f g s.alike loc l h.5 h.7 in
     (y.0, y.1, y.2, y.3, w.0, v.0, w.1, v.1, meet f g s h.4 h.5 w.0 v.0 w.2 v.2 h.8)
 
-pub pointers_both : (f g : FuncState) → Both f g → SamePointers f g
-pointers_both f g s =
+-- what makes a local is found in the other function
+abbrev pub FindsMakers : FuncState → FuncState → Type 0
+FindsMakers f g = (l : LocalNo) (q b k : ℕ) (x : Placed) → IsAt f.blocks q b k x → makes l x ≡ true → (c : ℕ) × (j : ℕ) × (y : Placed) × IsAt g.blocks q c j y × (makes l y ≡ true)
+
+turned : (f g : FuncState) → Alike f g → FindsMakers f g → (r : Root) (q : ℕ) → IsTurnedBy f r q → IsTurnedBy g r q
+turned f g s m (Local l) q h = let y = m l q h.1 h.2 h.3 h.4 h.5 in (turning_alike f g s (Local l) h.0, y.0, y.1, y.2, y.3, y.4)
+turned f g s m (Global n) q h = h
+
+pub pointers_both : (f g : FuncState) → Both f g → FindsMakers f g → FindsMakers g f → SamePointers f g
+pointers_both f g s m n =
     let b = alike_back f g s.alike in
     record {
       roots = λ p r o. (root_alike f g s.alike p r o, root_alike g f b p r o);
       bases = λ p c. (base_alike f g s.alike p c, base_alike g f b p c);
       turning = λ r. (turning_alike f g s.alike r, turning_alike g f b r);
+      turned = λ r q. (turned f g s.alike m r q, turned g f b n r q);
       captured = s.captured;
     }
 
@@ -257,6 +267,9 @@ captured_moved f g s t l h =
 
 pub both_moved : (f g : FuncState) → Alike f g → SameInsts f g → Both f g
 both_moved f g s t = record { alike = s; captured = λ l. (captured_moved f g s t l, captured_moved g f (alike_back f g s) (insts_back f g t) l) }
+
+pub makers_moved : (f g : FuncState) → SameInsts f g → FindsMakers f g
+makers_moved f g s l q b k x at e = let r = moved_at f g s q b k x at in (r.0, r.1, x, r.2, e)
 
 finds_writes : (f g : FuncState) → Alike f g → SameInsts f g → (i : ℕ) → Finds f g (WritesAlike f g) i
 finds_writes f g s t i b place x at = let r = moved_at f g t i b place x at in (r.0, r.1, x, r.2, writes_same f g s x.inst)

@@ -16,7 +16,7 @@ use Rattle.ms_ir.specs.declared.inst.Inst.{Inst}
 use Rattle.ms_ir.specs.declared.inst.Inst.TheVariants.{Alloca as AllocaInst, Gep, Step as StepInst, Load, Store, Copy, Call, Bin, Cmp, Select, Cast, Phi}
 use Rattle.ms_ir.specs.declared.inst.Term.{Term}
 use Rattle.ms_ir.specs.declared.inst.Term.TheVariants.{Br, CondBr, Ret, Unreachable}
-use Rattle.ms_ir.specs.Func.{Placed, Block, FuncState, IsAt, insts_at}
+use Rattle.ms_ir.specs.Func.{Placed, Block, FuncState, IsAt, IsSomewhere, insts_at}
 use Rattle.ms_ir.specs.Changes.{val_with, arg_with, entry_with, inst_with, term_with, placed_with, block_with, with_replaced}
 use Rattle.ms_ir.specs.Graph.{successors}
 use Rattle.ms_ir.specs.Inst.{result_type}
@@ -37,7 +37,7 @@ use Rattle.ms_alias.specs.Tables.{AliasState, IsAliasOf}
 use Rattle.ms_alias.proofs.Makers.{is_number, no_maker}
 use Rattle.ms_cache.specs.Edited.{GivesWay, SamePointers, SameWrites, SameReads, SameLocs}
 use Rattle.ms_cache.proofs.Alike.{Alike, alike_back, tables_alike, look}
-use Rattle.ms_cache.proofs.Accesses.{Both, both_back, val_base, lead, LeadTo, SameReach, reach_same, span_kept, Finds, FindsLoc, WritesAlike, ReadsAlike, writes_same, reads_same, writes_between, reads_between, pointers_both, loc_read, loc_written}
+use Rattle.ms_cache.proofs.Accesses.{FindsMakers, Both, both_back, val_base, lead, LeadTo, SameReach, reach_same, span_kept, Finds, FindsLoc, WritesAlike, ReadsAlike, writes_same, reads_same, writes_between, reads_between, pointers_both, loc_read, loc_written}
 use Rattle.ms_cache.proofs.Mapped.{MakesAlike, makes_itself, makes_local, found_to, found_from, makers_map, edges_map, finds_to, finds_from, at_to, at_from}
 
 -- ---- lists
@@ -129,6 +129,9 @@ insts_are l by b = refl
 
 pub number_same : (l : LocalNo) (by : Val) (x : Placed) → (placed_with l by x).number ≡ x.number
 number_same l by x = refl
+
+pub replaced_there : (f : FuncState) (l : LocalNo) (by : Val) (n : ℕ) → IsSomewhere f.blocks n → IsSomewhere (with_replaced f l by).blocks n
+replaced_there f l by n h = (h.0, h.1, placed_with l by h.2, at_to (placed_with l by) (block_with l by) (insts_are l by) (number_same l by) f.blocks n h.0 h.1 h.2 h.3)
 
 module _ (f : FuncState) (n : IsNumbered f) (l : LocalNo) (by : Val) (w : GivesWay f l by) where
   -- ---- values
@@ -268,8 +271,22 @@ module _ (f : FuncState) (n : IsNumbered f) (l : LocalNo) (by : Val) (w : GivesW
     pub replaced_tables : (a : AliasState) → IsAliasOf f a → IsAliasOf (with_replaced f l by) a
     replaced_tables a is = tables_alike f (with_replaced f l by) a with_alike with_both.captured is
 
+    makers_to : FindsMakers f (with_replaced f l by)
+    makers_to m q b k x at e = (
+      b,
+      k,
+      placed_with l by x,
+      at_to (placed_with l by) (block_with l by) (insts_are l by) (number_same l by) f.blocks q b k x at,
+      sym (makes_local m x (placed_with l by x) refl (makes_with x.inst (sound.insts b k x at.found).operands) 0).0 ∙ e,
+    )
+
+    makers_from : FindsMakers (with_replaced f l by) f
+    makers_from m q b k y at e =
+        let r = at_from (placed_with l by) (block_with l by) (insts_are l by) (number_same l by) f.blocks q b k y at in
+        (b, k, r.0, r.1, (makes_local m r.0 (placed_with l by r.0) refl (makes_with r.0.inst (sound.insts b k r.0 r.1.found).operands) 0).0 ∙ ap (makes m) r.2 ∙ e)
+
     pub replaced_pointers : SamePointers f (with_replaced f l by)
-    replaced_pointers = pointers_both f (with_replaced f l by) with_both
+    replaced_pointers = pointers_both f (with_replaced f l by) with_both makers_to makers_from
 
     -- ---- accesses
 

@@ -18,7 +18,7 @@ use Rattle.ms_alias.specs.Reaches.{ReadsLoc, WritesLoc, IsLocRead, IsLocWritten}
 use Rattle.ms_alias.specs.Tables.{AliasState, IsAliasOf}
 use Rattle.ms_cache.specs.Edited.{SamePointers, SameWrites, SameReads, SameLocs}
 use Rattle.ms_cache.proofs.Alike.{Alike, alike_back, tables_alike, look}
-use Rattle.ms_cache.proofs.Accesses.{Both, both_back, val_base, Finds, FindsLoc, WritesAlike, ReadsAlike, writes_same, reads_same, writes_between, reads_between, pointers_both, loc_read, loc_written}
+use Rattle.ms_cache.proofs.Accesses.{FindsMakers, Both, both_back, val_base, Finds, FindsLoc, WritesAlike, ReadsAlike, writes_same, reads_same, writes_between, reads_between, pointers_both, loc_read, loc_written}
 use Rattle.ms_cache.proofs.Mapped.{MakesAlike, makes_itself, makes_local, found_to, found_from, makers_map, edges_map, finds_to, finds_from, at_to, at_from}
 
 -- ---- instructions
@@ -112,8 +112,23 @@ source_both f n arg = record { alike = source_alike f n arg; captured = λ l. (c
 pub source_tables : (f : FuncState) (n : ℕ) (arg : Arg) (a : AliasState) → IsAliasOf f a → IsAliasOf (with_source f n arg) a
 source_tables f n arg a is = let s = source_both f n arg in tables_alike f (with_source f n arg) a s.alike s.captured is
 
+makers_to : (f : FuncState) (n : ℕ) (arg : Arg) → FindsMakers f (with_source f n arg)
+makers_to f n arg l q b k x at e = (
+  b,
+  k,
+  placed_sourced n arg x,
+  at_to (placed_sourced n arg) (block_sourced n arg) (insts_are n arg) (number_same n arg) f.blocks q b k x at,
+  either n arg (λ y. makes l y ≡ true) x e (sym (makes_local l x (changed arg x) refl (makes_sourced arg x.inst) 0).0 ∙ e),
+)
+
+makers_from : (f : FuncState) (n : ℕ) (arg : Arg) → FindsMakers (with_source f n arg) f
+makers_from f n arg l q b k y at e =
+    let r = at_from (placed_sourced n arg) (block_sourced n arg) (insts_are n arg) (number_same n arg) f.blocks q b k y at in
+    let back = either n arg (λ z. makes l z ≡ true → makes l r.0 ≡ true) r.0 (λ t. t) (λ t. (makes_local l r.0 (changed arg r.0) refl (makes_sourced arg r.0.inst) 0).0 ∙ t) in
+    (b, k, r.0, r.1, back (ap (makes l) r.2 ∙ e))
+
 pub source_pointers : (f : FuncState) (n : ℕ) (arg : Arg) → SamePointers f (with_source f n arg)
-source_pointers f n arg = pointers_both f (with_source f n arg) (source_both f n arg)
+source_pointers f n arg = pointers_both f (with_source f n arg) (source_both f n arg) (makers_to f n arg) (makers_from f n arg)
 
 writes_to : (f : FuncState) (n : ℕ) (arg : Arg) (i : ℕ) → Finds f (with_source f n arg) (WritesAlike f (with_source f n arg)) i
 writes_to f n arg i =

@@ -1,5 +1,5 @@
 -- What is left where an instruction was taken that makes no pointer and passes none, and where a load gave way to a value.
-use Rattle.std.proofs.Common.{◌≡◌, ◌⊎◌, ◌↔◌, ℕ, ℤ, Bool, true, false, List, [], Some, refl, sym, ap, ◌∙◌, subst, inl, inr, ⊎_elim}
+use Rattle.std.proofs.Common.{◌≡◌, ◌⊎◌, ◌↔◌, ℕ, ℤ, Bool, true, false, List, [], Some, refl, sym, ap, ◌∙◌, subst, inl, inr, ⊎_elim, true≢false}
 use Rattle.std.specs.Prelude.{◌≢◌, Contains, slice_get}
 use Rattle.ms_ir.specs.declared.names.Ty.{Ty}
 use Rattle.ms_ir.specs.declared.names.Ty.TheVariants.{I1, I8, I16, I32, I64, Ptr}
@@ -22,10 +22,11 @@ use Rattle.ms_alias.specs.Bases.{Alloca as AllocaBase}
 use Rattle.ms_alias.specs.Captured.{IsCaptured, args_of}
 use Rattle.ms_alias.specs.Reaches.{ReadsLoc, WritesLoc}
 use Rattle.ms_alias.specs.Tables.{AliasState, IsAliasOf}
+use Rattle.ms_alias.proofs.Makers.{pointer_from}
 use Rattle.ms_cache.specs.Edited.{GivesWay, IsLoadGone, SamePointers, SameWrites, SameReads, SameLocs}
 use Rattle.ms_cache.proofs.Alike.{Alike, alike_back, tables_alike}
 use Rattle.ms_cache.proofs.Insts.{Has, within, cut_alike, cut_from, cut_to}
-use Rattle.ms_cache.proofs.Accesses.{Both, val_base, Finds, FindsLoc, WritesAlike, ReadsAlike, writes_same, reads_same, writes_between, reads_between, pointers_both, loc_read, loc_written}
+use Rattle.ms_cache.proofs.Accesses.{FindsMakers, Both, val_base, Finds, FindsLoc, WritesAlike, ReadsAlike, writes_same, reads_same, writes_between, reads_between, pointers_both, loc_read, loc_written}
 use Rattle.ms_cache.proofs.Mapped.{at_from}
 use Rattle.ms_cache.proofs.Replaced.{none_in, insts_are, number_same, replaced_tables, replaced_pointers, replaced_writes, replaced_reads, replaced_locs}
 
@@ -62,9 +63,6 @@ module _ (f g : FuncState) (n : ℕ) (inst : Inst) (t : IsTaken f g n inst) (idl
   pub take_tables : (a : AliasState) → IsAliasOf f a → IsAliasOf g a
   take_tables a is = tables_alike f g a take_alike take_both.captured is
 
-  pub take_pointers : SamePointers f g
-  take_pointers = pointers_both f g take_both
-
   at_to : (i : ℕ) → i ≢ n → (b k : ℕ) (x : Placed) → IsAt f.blocks i b k x → (c : ℕ) × (j : ℕ) × IsAt g.blocks i c j x
   at_to i ne b k x at =
       ⊎_elim
@@ -74,6 +72,19 @@ module _ (f g : FuncState) (n : ℕ) (inst : Inst) (t : IsTaken f g n inst) (idl
 
   at_back : (i : ℕ) (b k : ℕ) (x : Placed) → IsAt g.blocks i b k x → (c : ℕ) × (j : ℕ) × IsAt f.blocks i c j x
   at_back i b k x at = let r = has_from x (b, k, at.found) in (r.0, r.1, record { block = within f.blocks r.0 r.1 x r.2; found = r.2; numbered = at.numbered })
+
+  makers_to : FindsMakers f g
+  makers_to l q b k x at e =
+      ⊎_elim
+      (λ (s : t.x ≡ x). absurd (true≢false (sym (pointer_from l x e) ∙ ap (λ (z : Placed). makes_pointer z.inst) (sym s) ∙ sym (ap makes_pointer t.inst_is) ∙ idle)))
+      (λ (r : Has g.blocks x). (r.0, r.1, x, record { block = within g.blocks r.0 r.1 x r.2; found = r.2; numbered = at.numbered }, e))
+      (has_to x (b, k, at.found))
+
+  makers_from : FindsMakers g f
+  makers_from l q b k x at e = let r = at_back q b k x at in (r.0, r.1, x, r.2, e)
+
+  pub take_pointers : SamePointers f g
+  take_pointers = pointers_both f g take_both makers_to makers_from
 
   writes_to : (i : ℕ) → i ≢ n → Finds f g (WritesAlike f g) i
   writes_to i ne b k x at = let r = at_to i ne b k x at in (r.0, r.1, x, r.2, writes_same f g take_alike x.inst)
@@ -123,6 +134,7 @@ pointers_on f g h s t = record {
   roots = λ p r o. both_ways (s.roots p r o) (t.roots p r o);
   bases = λ p b. both_ways (s.bases p b) (t.bases p b);
   turning = λ r. both_ways (s.turning r) (t.turning r);
+  turned = λ r q. both_ways (s.turned r q) (t.turned r q);
   captured = λ l. both_ways (s.captured l) (t.captured l);
 }
 

@@ -13,7 +13,7 @@ use Rattle.ms_ir.specs.Locals.{HasType}
 use Rattle.ms_ir.specs.SoundFunc.{IsValueIn}
 use Rattle.ms_alias.specs.declared.loc.Root.{Root}
 use Rattle.ms_alias.specs.declared.loc.Loc.{Loc}
-use Rattle.ms_alias.specs.Roots.{makes_pointer, HasRoot, IsTurning}
+use Rattle.ms_alias.specs.Roots.{makes_pointer, HasRoot, IsTurning, IsTurnedBy}
 use Rattle.ms_alias.specs.Bases.{Base, HasBase}
 use Rattle.ms_alias.specs.Captured.{IsCaptured}
 use Rattle.ms_alias.specs.Reaches.{ReadsLoc, WritesLoc}
@@ -23,11 +23,12 @@ use Rattle.ms_alias.specs.Meeting.{MayWrite, MayWriteInTurn, MayRead}
 abbrev pub MakesNone : FuncState → ℕ → Type 0
 MakesNone f n = (b place : ℕ) (x : Placed) → IsAt f.blocks n b place x → makes_pointer x.inst ≡ false
 
--- Each pointer has the same root and offset, and the same bases; the same roots turn, and the same allocas are captured.
+-- Each pointer has the same root and offset, and the same bases; the same roots turn, made by the same instructions, and the same allocas are captured.
 pub record SamePointers (f g : FuncState) : Type 0 where
   pub roots : (p r : Root) (offset : ℤ) → HasRoot f p r offset ↔ HasRoot g p r offset
   pub bases : (p : Root) (b : Base) → HasBase f p b ↔ HasBase g p b
   pub turning : (r : Root) → IsTurning f r ↔ IsTurning g r
+  pub turned : (r : Root) (q : ℕ) → IsTurnedBy f r q ↔ IsTurnedBy g r q
   pub captured : (l : LocalNo) → IsCaptured f l ↔ IsCaptured g l
 
 -- the instruction of this number may write the location in both functions or in neither

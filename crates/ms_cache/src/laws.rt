@@ -5,7 +5,7 @@ ghost use Rattle.ms_ir.specs.declared.names.LocalNo.{LocalNo};
 ghost use Rattle.ms_ir.specs.declared.inst.Arg.{Arg};
 ghost use Rattle.ms_ir.specs.declared.inst.Val.{Val};
 ghost use Rattle.ms_ir.specs.declared.inst.Inst.{Inst};
-ghost use Rattle.ms_ir.specs.Func.{Placed, FuncState, IsAt, IsShifted, IsTaken};
+ghost use Rattle.ms_ir.specs.Func.{Placed, FuncState, IsAt, IsSomewhere, IsShifted, IsTaken};
 ghost use Rattle.ms_ir.specs.Changes.{with_source, with_replaced, with_edge_cut};
 ghost use Rattle.ms_ir.specs.Edits.{is_movable};
 ghost use Rattle.ms_ir.specs.Locals.{IsNumbered};
@@ -58,6 +58,7 @@ pub fn replace_kept()
     ensures writes { (f : FuncState) → IsNumbered f → (l : LocalNo) (by : Val) → GivesWay f l by → IsSoundFunc f → (i : ℕ) (loc : Loc) → SameWrites f (with_replaced f l by) i loc }
     ensures reads { (f : FuncState) → IsNumbered f → (l : LocalNo) (by : Val) → GivesWay f l by → IsSoundFunc f → (i : ℕ) (loc : Loc) → SameReads f (with_replaced f l by) i loc }
     ensures locations { (f : FuncState) → IsNumbered f → (l : LocalNo) (by : Val) → GivesWay f l by → IsSoundFunc f → (i : InstNo) → SameLocs f (with_replaced f l by) i }
+    ensures there { (f : FuncState) (l : LocalNo) (by : Val) (n : ℕ) → IsSomewhere f.blocks n → IsSomewhere (with_replaced f l by).blocks n }
 {}
 
 /// Where an instruction was taken that makes no pointer and passes none to a call, the tables are the function's without any call, its pointers are the

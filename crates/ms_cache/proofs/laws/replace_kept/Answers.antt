@@ -1,4 +1,4 @@
-use Rattle.ms_cache.proofs.Replaced.{replaced_tables, replaced_pointers, replaced_writes, replaced_reads, replaced_locs}
+use Rattle.ms_cache.proofs.Replaced.{replaced_tables, replaced_pointers, replaced_writes, replaced_reads, replaced_locs, replaced_there}
 use Rattle.ms_cache.proofs.laws.replace_kept.Goals as goal
 
 pub returns-clause-tables : goal.returns-clause-tables
@@ -15,3 +15,6 @@ returns-clause-reads c = replaced_reads
 
 pub returns-clause-locations : goal.returns-clause-locations
 returns-clause-locations c = replaced_locs
+
+pub returns-clause-there : goal.returns-clause-there
+returns-clause-there c = replaced_there
