@@ -1,25 +1,25 @@
 -- What instructions may write and read in two functions whose pointers are made alike.
-use Rattle.std.proofs.Common.{◌≡◌, ◌↔◌, ⊎_elim, ℕ, ℤ, Bool, true, List, refl, sym, ap, ◌∙◌, subst, inl, inr}
-use Rattle.std.specs.Prelude.{Contains, slice_get}
+use Rattle.std.proofs.Common.{◌≡◌, ◌↔◌, ℕ, ℤ, true, List, refl, sym, subst, inl, inr}
+use Rattle.std.specs.Prelude.{Contains}
 use Rattle.ms_ir.specs.declared.names.LocalNo.{LocalNo}
 use Rattle.ms_ir.specs.declared.names.InstNo.{InstNo}
 use Rattle.ms_ir.specs.declared.inst.Val.{Val}
 use Rattle.ms_ir.specs.declared.inst.Arg.{Arg}
 use Rattle.ms_ir.specs.declared.inst.Inst.{Inst}
 use Rattle.ms_ir.specs.declared.inst.Inst.TheVariants.{Alloca as AllocaInst, Gep, Step as StepInst, Load, Store, Copy, Call, Bin, Cmp, Select, Cast, Phi}
-use Rattle.ms_ir.specs.Func.{Placed, FuncState, IsAt, insts_at}
+use Rattle.ms_ir.specs.Func.{Placed, FuncState, IsAt}
 use Rattle.ms_alias.specs.declared.loc.Root.{Root}
 use Rattle.ms_alias.specs.declared.loc.Root.TheVariants.{Local, Global}
 use Rattle.ms_alias.specs.declared.loc.Loc.{Loc}
 use Rattle.ms_alias.specs.declared.loc.Loc.TheVariants.{Bytes, ReadBy}
-use Rattle.ms_alias.specs.Roots.{makes, HasRoot, IsTurning, IsTurnedBy, IsFixed}
-use Rattle.ms_alias.specs.Bases.{Base, Alloca as AllocaBase, Argument as ArgumentBase, Object as ObjectBase, Outside, Hidden, HasBase, HasValBase}
-use Rattle.ms_alias.specs.Captured.{IsCaptured, IsKept}
+use Rattle.ms_alias.specs.Roots.{makes, HasRoot, IsTurnedBy, IsFixed}
+use Rattle.ms_alias.specs.Bases.{Base, Alloca as AllocaBase, Argument as ArgumentBase, Object as ObjectBase, Outside, Hidden, HasValBase}
+use Rattle.ms_alias.specs.Captured.{IsCaptured}
 use Rattle.ms_alias.specs.Reaches.{Reach, Span, Called, IsSpan, IsRead, IsWritten, IsReachOf, IsKnown, IsReached, IsLocRead, IsLocWritten, ReadsLoc, WritesLoc}
-use Rattle.ms_alias.specs.Meeting.{HaveOneRoot, ShareByte, HasLength, ShareBase, Meet, AreOneRoot, MeetInTurn, MayWrite, MayWriteInTurn, MayRead}
+use Rattle.ms_alias.specs.Meeting.{HaveOneRoot, ShareByte, HasLength, Meet, AreOneRoot, MeetInTurn, MayWrite, MayWriteInTurn, MayRead}
 use Rattle.ms_cache.specs.Edited.{SamePointers, SameWrites, SameReads, SameLocs}
 use Rattle.ms_cache.proofs.Alike.{Alike, alike_back, root_alike, base_alike, turning_alike, argument_alike}
-use Rattle.ms_cache.proofs.Insts.{Has, SameInsts, within}
+use Rattle.ms_cache.proofs.Insts.{SameInsts, within}
 
 -- what some arguments lead to
 abbrev pub LeadTo : FuncState → List Arg → Base → Type 0

@@ -1,10 +1,10 @@
 -- What is left of roots and locations where an edge was cut.
-use Rattle.std.proofs.Common.{◌≡◌, ◌⊎◌, ◌↔◌, ℕ, zero, suc, ℤ, Bool, true, false, cond, List, [], ◌∷◌, Option, Some, None, length, get_or, set, map, refl, sym, ap, ◌∙◌, subst, inl, inr, ⊎_elim}
+use Rattle.std.proofs.Common.{◌≡◌, ◌⊎◌, ◌↔◌, ℕ, zero, suc, ℤ, Bool, true, false, cond, List, [], ◌∷◌, Option, Some, None, get_or, set, map, refl, sym, ap, ◌∙◌, subst, inl, inr, ⊎_elim}
 use Rattle.std.specs.Prelude.{◌&&◌, slice_get}
 use Rattle.ms_ir.specs.declared.names.LocalNo.{LocalNo}
 use Rattle.ms_ir.specs.declared.names.InstNo.{InstNo}
 use Rattle.ms_ir.specs.declared.inst.Inst.{Inst}
-use Rattle.ms_ir.specs.declared.inst.Inst.TheVariants.{Alloca as AllocaInst, Gep, Step as StepInst, Load, Store, Copy, Call, Bin, Cmp, Select, Cast, Phi}
+use Rattle.ms_ir.specs.declared.inst.Inst.TheVariants.{Phi}
 use Rattle.ms_ir.specs.declared.inst.Term.{Term}
 use Rattle.ms_ir.specs.declared.inst.Term.TheVariants.{Br}
 use Rattle.ms_ir.specs.Func.{Placed, Block, FuncState, IsAt, no_block, insts_at, with_insts}
@@ -13,7 +13,7 @@ use Rattle.ms_alias.specs.declared.loc.Root.{Root}
 use Rattle.ms_alias.specs.declared.loc.Root.TheVariants.{Local, Global}
 use Rattle.ms_alias.specs.declared.loc.Loc.{Loc}
 use Rattle.ms_alias.specs.Roots.{Maker, Step, is_local, makes, makes_pointer, maker_in, maker_from, maker_of, or_else, step_in, step_by_maker, step_of, HasRoot}
-use Rattle.ms_alias.specs.Reaches.{ReadsLoc, WritesLoc, IsLocRead, IsLocWritten}
+use Rattle.ms_alias.specs.Reaches.{IsLocRead, IsLocWritten}
 use Rattle.ms_cache.specs.Edited.{SameLocs}
 use Rattle.ms_cache.proofs.Alike.{SameSteps, root_kept}
 use Rattle.ms_cache.proofs.Insts.{Has, within, set_from, set_to, set_here}

@@ -3,7 +3,7 @@ use Rattle.std.proofs.Common.{◌≡◌, ◌<◌, ◌⊎◌, ◌↔◌, ℕ, zer
 use Rattle.std.specs.Prelude.{slice_get, insert, remove}
 use Rattle.std.proofs.lemmas.Bool.{cond-false, and_left}
 use Rattle.ms_ir.specs.declared.names.LocalNo.{LocalNo}
-use Rattle.ms_ir.specs.Func.{Placed, Block, FuncState, IsAt, IsShifted, IsTaken, no_block, insts_at, with_insts, put_at, cut_at}
+use Rattle.ms_ir.specs.Func.{Placed, Block, FuncState, IsShifted, no_block, insts_at, with_insts, put_at, cut_at}
 use Rattle.ms_ir.specs.Graph.{successors}
 use Rattle.ms_flow.specs.Table.{edges_of, run_to}
 use Rattle.ms_alias.specs.Roots.{makes, makes_pointer, is_local, maker_in, maker_from, or_else}

@@ -1,7 +1,7 @@
 -- What is left where a local that holds numbers gave way to a value of its type.
-use Rattle.std.proofs.Common.{◌≡◌, ◌<◌, ◌↔◌, ℕ, zero, suc, Bool, true, false, cond, List, [], ◌∷◌, Option, Some, None, length, get_or, map, refl, sym, ap, ◌∙◌, subst, inl, inr, ⊎_elim, true≢false, arith}
-use Rattle.std.specs.Prelude.{◌==◌, ◌&&◌, Contains, slice_get}
-use Rattle.std.proofs.lemmas.Bool.{cond-true, cond-false, ne_eqb, eqb-true, and_parts, cases_Bool}
+use Rattle.std.proofs.Common.{◌≡◌, ◌<◌, ℕ, zero, suc, Bool, true, false, cond, List, [], ◌∷◌, Some, None, length, get_or, map, refl, sym, ap, ◌∙◌, subst, inl, inr, ⊎_elim, true≢false, arith}
+use Rattle.std.specs.Prelude.{◌==◌, Contains, slice_get}
+use Rattle.std.proofs.lemmas.Bool.{cond-true, cond-false, ne_eqb, and_parts, cases_Bool}
 use Rattle.std.proofs.lemmas.Option.{slice_get_within}
 use Rattle.ms_ir.specs.declared.names.Ty.{Ty}
 use Rattle.ms_ir.specs.declared.names.Ty.TheVariants.{I1, I8, I16, I32, I64, Ptr}
@@ -20,25 +20,25 @@ use Rattle.ms_ir.specs.Func.{Placed, Block, FuncState, IsAt, IsSomewhere, insts_
 use Rattle.ms_ir.specs.Changes.{val_with, arg_with, entry_with, inst_with, term_with, placed_with, block_with, with_replaced}
 use Rattle.ms_ir.specs.Graph.{successors}
 use Rattle.ms_ir.specs.Inst.{result_type}
-use Rattle.ms_ir.specs.Locals.{IsNumbered, IsGiver, HasType}
+use Rattle.ms_ir.specs.Locals.{IsNumbered, HasType}
 use Rattle.ms_ir.specs.Types.{is_integer, is_pointer, types_stand}
-use Rattle.ms_ir.specs.Uses.{Operand, of_type, arg_operand, entry_operand, operands_of}
+use Rattle.ms_ir.specs.Uses.{of_type, arg_operand, entry_operand, operands_of}
 use Rattle.ms_ir.specs.SoundFunc.{IsValueIn, AreValues, IsSoundFunc}
 use Rattle.ms_meaning.specs.Values.{size_of}
 use Rattle.ms_alias.specs.declared.loc.Root.{Root}
-use Rattle.ms_alias.specs.declared.loc.Root.TheVariants.{Local, Global}
+use Rattle.ms_alias.specs.declared.loc.Root.TheVariants.{Local}
 use Rattle.ms_alias.specs.declared.loc.Loc.{Loc}
 use Rattle.ms_alias.specs.declared.loc.Loc.TheVariants.{Bytes, ReadBy}
 use Rattle.ms_alias.specs.Roots.{makes, makes_pointer, maker_of, pointer_of, step_by}
-use Rattle.ms_alias.specs.Bases.{Base, Alloca as AllocaBase, HasBase, HasValBase, IsBrought, IsNamed, with_pointer, pointers_in, leads_in, leads_of}
+use Rattle.ms_alias.specs.Bases.{Base, Alloca as AllocaBase, HasBase, HasValBase, IsBrought, IsNamed, with_pointer, pointers_in, leads_in}
 use Rattle.ms_alias.specs.Captured.{IsCaptured, args_of}
-use Rattle.ms_alias.specs.Reaches.{Reach, Span, Called, IsSpan, IsRead, IsWritten, ReadsLoc, WritesLoc, IsLocRead, IsLocWritten}
+use Rattle.ms_alias.specs.Reaches.{Reach, Called, IsSpan, IsLocRead, IsLocWritten}
 use Rattle.ms_alias.specs.Tables.{AliasState, IsAliasOf}
 use Rattle.ms_alias.proofs.Makers.{is_number, no_maker}
 use Rattle.ms_cache.specs.Edited.{GivesWay, SamePointers, SameWrites, SameReads, SameLocs}
-use Rattle.ms_cache.proofs.Alike.{Alike, alike_back, tables_alike, look}
-use Rattle.ms_cache.proofs.Accesses.{FindsMakers, Both, both_back, val_base, lead, LeadTo, SameReach, reach_same, span_kept, Finds, FindsLoc, WritesAlike, ReadsAlike, writes_same, reads_same, writes_between, reads_between, pointers_both, loc_read, loc_written}
-use Rattle.ms_cache.proofs.Mapped.{MakesAlike, makes_itself, makes_local, found_to, found_from, makers_map, edges_map, finds_to, finds_from, at_to, at_from}
+use Rattle.ms_cache.proofs.Alike.{Alike, alike_back, tables_alike}
+use Rattle.ms_cache.proofs.Accesses.{FindsMakers, Both, val_base, lead, LeadTo, SameReach, reach_same, span_kept, Finds, FindsLoc, WritesAlike, ReadsAlike, writes_between, reads_between, pointers_both, loc_read, loc_written}
+use Rattle.ms_cache.proofs.Mapped.{MakesAlike, makes_local, found_to, found_from, makers_map, edges_map, finds_to, finds_from, at_to, at_from}
 
 -- ---- lists
 

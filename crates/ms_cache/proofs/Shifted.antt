@@ -1,5 +1,5 @@
 -- What a shift of an instruction that makes no pointer leaves.
-use Rattle.std.proofs.Common.{◌≡◌, ◌<◌, ℕ, Bool, true, false, length, refl}
+use Rattle.std.proofs.Common.{◌<◌, ℕ, length}
 use Rattle.ms_ir.specs.declared.names.InstNo.{InstNo}
 use Rattle.ms_ir.specs.Func.{FuncState, IsShifted}
 use Rattle.ms_alias.specs.declared.loc.Loc.{Loc}

@@ -1,13 +1,13 @@
 -- What another source of a memcpy leaves.
-use Rattle.std.proofs.Common.{◌≡◌, ◌↔◌, ◌⊎◌, ℕ, Bool, true, false, cond, List, map, refl, sym, ap, ◌∙◌, subst, inl, inr}
+use Rattle.std.proofs.Common.{◌≡◌, ◌↔◌, ℕ, Bool, true, false, cond, List, map, refl, sym, ap, ◌∙◌, subst}
 use Rattle.std.specs.Prelude.{◌==◌, ◌≢◌, Contains}
 use Rattle.std.proofs.lemmas.Bool.{cond-false, ne_eqb}
 use Rattle.ms_ir.specs.declared.names.LocalNo.{LocalNo}
 use Rattle.ms_ir.specs.declared.names.InstNo.{InstNo}
 use Rattle.ms_ir.specs.declared.inst.Arg.{Arg}
 use Rattle.ms_ir.specs.declared.inst.Inst.{Inst}
-use Rattle.ms_ir.specs.declared.inst.Inst.TheVariants.{Alloca as AllocaInst, Gep, Step as StepInst, Load, Store, Copy, Call, Bin, Cmp, Select, Cast, Phi}
-use Rattle.ms_ir.specs.Func.{Placed, Block, FuncState, IsAt}
+use Rattle.ms_ir.specs.declared.inst.Inst.TheVariants.{Copy}
+use Rattle.ms_ir.specs.Func.{Placed, Block, FuncState}
 use Rattle.ms_ir.specs.Changes.{inst_sourced, placed_sourced, block_sourced, with_source}
 use Rattle.ms_alias.specs.declared.loc.Loc.{Loc}
 use Rattle.ms_alias.specs.declared.loc.Loc.TheVariants.{Bytes, ReadBy}
@@ -16,9 +16,9 @@ use Rattle.ms_alias.specs.Bases.{Alloca as AllocaBase}
 use Rattle.ms_alias.specs.Captured.{IsCaptured, args_of}
 use Rattle.ms_alias.specs.Reaches.{ReadsLoc, WritesLoc, IsLocRead, IsLocWritten}
 use Rattle.ms_alias.specs.Tables.{AliasState, IsAliasOf}
-use Rattle.ms_cache.specs.Edited.{SamePointers, SameWrites, SameReads, SameLocs}
+use Rattle.ms_cache.specs.Edited.{SamePointers, SameWrites, SameReads}
 use Rattle.ms_cache.proofs.Alike.{Alike, alike_back, tables_alike, look}
-use Rattle.ms_cache.proofs.Accesses.{FindsMakers, Both, both_back, val_base, Finds, FindsLoc, WritesAlike, ReadsAlike, writes_same, reads_same, writes_between, reads_between, pointers_both, loc_read, loc_written}
+use Rattle.ms_cache.proofs.Accesses.{FindsMakers, Both, val_base, Finds, FindsLoc, WritesAlike, ReadsAlike, writes_same, reads_same, writes_between, reads_between, pointers_both, loc_read, loc_written}
 use Rattle.ms_cache.proofs.Mapped.{MakesAlike, makes_itself, makes_local, found_to, found_from, makers_map, edges_map, finds_to, finds_from, at_to, at_from}
 
 -- ---- instructions

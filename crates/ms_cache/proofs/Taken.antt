@@ -1,5 +1,5 @@
 -- What is left where an instruction was taken that makes no pointer and passes none, and where a load gave way to a value.
-use Rattle.std.proofs.Common.{◌≡◌, ◌⊎◌, ◌↔◌, ℕ, ℤ, Bool, true, false, List, [], Some, refl, sym, ap, ◌∙◌, subst, inl, inr, ⊎_elim, true≢false}
+use Rattle.std.proofs.Common.{◌≡◌, ◌⊎◌, ◌↔◌, ℕ, true, false, List, [], Some, refl, sym, ap, ◌∙◌, subst, inr, ⊎_elim, true≢false}
 use Rattle.std.specs.Prelude.{◌≢◌, Contains, slice_get}
 use Rattle.ms_ir.specs.declared.names.Ty.{Ty}
 use Rattle.ms_ir.specs.declared.names.Ty.TheVariants.{I1, I8, I16, I32, I64, Ptr}
@@ -9,10 +9,10 @@ use Rattle.ms_ir.specs.declared.inst.Val.{Val}
 use Rattle.ms_ir.specs.declared.inst.Arg.{Arg}
 use Rattle.ms_ir.specs.declared.inst.Inst.{Inst}
 use Rattle.ms_ir.specs.declared.inst.Inst.TheVariants.{Load}
-use Rattle.ms_ir.specs.Func.{Placed, Block, FuncState, IsAt, IsTaken, insts_at, cut_at}
+use Rattle.ms_ir.specs.Func.{Placed, FuncState, IsAt, IsTaken, insts_at}
 use Rattle.ms_ir.specs.Changes.{inst_with, val_with, placed_with, block_with, with_replaced}
 use Rattle.ms_ir.specs.Inst.{result_type}
-use Rattle.ms_ir.specs.Locals.{IsNumbered, IsGiver, HasType}
+use Rattle.ms_ir.specs.Locals.{IsNumbered}
 use Rattle.ms_ir.specs.Types.{is_integer, is_stored, types_stand}
 use Rattle.ms_ir.specs.SoundFunc.{IsSoundFunc}
 use Rattle.ms_alias.specs.declared.loc.Loc.{Loc}
@@ -20,7 +20,6 @@ use Rattle.ms_alias.specs.declared.loc.Loc.TheVariants.{Bytes, ReadBy}
 use Rattle.ms_alias.specs.Roots.{makes_pointer}
 use Rattle.ms_alias.specs.Bases.{Alloca as AllocaBase}
 use Rattle.ms_alias.specs.Captured.{IsCaptured, args_of}
-use Rattle.ms_alias.specs.Reaches.{ReadsLoc, WritesLoc}
 use Rattle.ms_alias.specs.Tables.{AliasState, IsAliasOf}
 use Rattle.ms_alias.proofs.Makers.{pointer_from}
 use Rattle.ms_cache.specs.Edited.{GivesWay, IsLoadGone, SamePointers, SameWrites, SameReads, SameLocs}
