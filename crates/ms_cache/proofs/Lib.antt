@@ -1,3 +1,13 @@
 pub mod Keys
 pub mod Tested
 pub mod Filtered
+pub mod Alike
+pub mod Insts
+pub mod Accesses
+pub mod Shifted
+pub mod Mapped
+pub mod Sourced
+pub mod Replaced
+pub mod Taken
+pub mod Cut
+pub mod Told

@@ -31,6 +31,12 @@
 //! write, and a cut edge changes the paths; then all answers go. That what stays is the clobber in the changed function is not said here, where no
 //! path is known. Answers stand in a hash table: `get` and `put` do not go through the list, `after` does once.
 //!
+//! **Pointers behind edits.** The tables of a function's pointers are those of the edited function with no call of `ms_alias`, roots and locations are
+//! the same, and so is what each other instruction may write and read: where an instruction that makes no pointer stands elsewhere
+//! ([`laws::shift_kept`]), a memcpy took another source ([`laws::source_kept`]), a local that holds numbers gave way to a value of its type
+//! ([`laws::replace_kept`]), an instruction that makes no pointer and passes no arguments was taken ([`laws::take_kept`]), or a load gave way and was
+//! taken ([`laws::load_gone`]). Where an edge was cut the tables are ready to be renewed ([`laws::cut_kept`]).
+//!
 //! **What a caller may assume.** `get` is exact, and no query stands twice. `after` keeps the order and drops nothing else ([`laws::stays_told`]); it takes
 //! no memory, nor do `new`, `get` and `count`. After `put` found no memory the list is as it was.
 //!
