@@ -7,6 +7,7 @@ ghost use Rattle.ms_read.specs.Draft.{IsDraft};
 ghost use Rattle.ms_resolve.specs.Build.{bare_module};
 ghost use Rattle.ms_valid.specs.Cause.{IsAccepted};
 ghost use Rattle.ms_again.specs.Again.{IsReadAgain};
+ghost use Rattle.ms_again.specs.Ordered.{IsSameInOrder};
 ghost use Rattle.ms_again.specs.Same.{IsSameModule};
 
 /// An accepted module that is printed is read and accepted as the same module, and as no other; and that module prints
@@ -21,6 +22,16 @@ pub fn read_again()
 /// functions have, are not seen in it.
 pub fn same_text()
     ensures { (m n : ModuleState) → IsSameModule m n → module_text m ≡ module_text n }
+{}
+
+/// So does a module whose numbers of instructions and locals stand in another order, or have gaps.
+pub fn same_order()
+    ensures { (m n : ModuleState) → IsSameInOrder m n → module_text m ≡ module_text n }
+{}
+
+/// What is the same but for written numbers and room is the same in order.
+pub fn in_order()
+    ensures { (m n : ModuleState) → IsSameModule m n → IsSameInOrder m n }
 {}
 
 /// A draft is accepted as one module, but for the room that its functions have.
