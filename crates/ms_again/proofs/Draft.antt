@@ -13,7 +13,7 @@ use Rattle.ms_grammar.specs.declared.keyword.Keyword.TheVariants as word
 use Rattle.ms_grammar.proofs.Printing.{text_of_append}
 use Rattle.ms_read.specs.Rows.{rows_of}
 use Rattle.ms_read.specs.Draft.{IsDraft, Say}
-use Rattle.ms_read.specs.Told.{IsSaid, IsPlaced, sorts_of}
+use Rattle.ms_read.specs.Told.{IsSaid}
 use Rattle.ms_resolve.specs.Shape.{InstLine, BlockLines, FuncLines, ItemLines, plain, body, item_lines, func_lines, IsItem}
 use Rattle.ms_resolve.specs.Made.{makes, param_made, inst_made, block_made, made_in}
 use Rattle.ms_resolve.specs.Faults.{IsIn}
@@ -21,6 +21,7 @@ use Rattle.ms_resolve.specs.Module.{module_of}
 use Rattle.ms_print.specs.Numbering.{free_after}
 use Rattle.ms_print.specs.Text.{module_text}
 use Rattle.ms_print.proofs.NumberingLemmas.{shown_params-length}
+use Rattle.ms_again.specs.Basis.{IsBasis}
 use Rattle.ms_again.proofs.Renaming.{Renaming, renamed_term}
 use Rattle.ms_again.proofs.Renamed.{with_params}
 use Rattle.ms_again.proofs.Fine.{IsFine, read_fine, read_kept}
@@ -154,12 +155,6 @@ made_size f =
     let count = length-map f.head.params (param_made f.line) in
     let some = made_blocks f.line f.blocks in
     omega arith
-
--- what is known of items whose lines rows say
-pub record IsBasis (items : List ItemLines) : Type 0 where
-  pub each : Each IsItem items
-  pub said_all : Each (λ item. Each (λ (e : ℕ × Line). IsSaid e.1) (item_lines item)) items
-  pub placed : IsPlaced (sorts_of (flat_map item_lines items))
 
 said_fine : (l : Line) → IsSaid l → IsFine l
 said_fine l h = read_fine h.row l h.read

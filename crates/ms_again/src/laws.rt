@@ -6,7 +6,8 @@ ghost use Rattle.ms_print.specs.Text.{module_text};
 ghost use Rattle.ms_read.specs.Draft.{IsDraft};
 ghost use Rattle.ms_resolve.specs.Build.{bare_module};
 ghost use Rattle.ms_valid.specs.Cause.{IsAccepted};
-ghost use Rattle.ms_again.specs.Again.{IsReadAgain};
+ghost use Rattle.ms_again.specs.Again.{IsReadAgain, IsReadInOrder};
+ghost use Rattle.ms_again.specs.Basis.{IsBasis};
 ghost use Rattle.ms_again.specs.Ordered.{IsSameInOrder};
 ghost use Rattle.ms_again.specs.Same.{IsSameModule};
 
@@ -16,6 +17,16 @@ ghost use Rattle.ms_again.specs.Same.{IsSameModule};
 pub fn read_again()
     ensures { (bytes : List ℕ) (draft : List (ℕ × Line)) (m : ModuleState)
         → IsDraft bytes draft → IsAccepted draft m → length (module_text m) < 10 ^ 9 → IsReadAgain m }
+{}
+
+/// So is one whose items rows say, whatever text they come from, if any.
+pub fn read_items()
+    ensures { (draft : List (ℕ × Line)) (m : ModuleState) (a : IsAccepted draft m) → IsBasis a.items → length (module_text m) < 10 ^ 9 → IsReadAgain m }
+{}
+
+/// So is one that is the same in order, though its instructions and locals are numbered otherwise.
+pub fn read_in_order()
+    ensures { (m n : ModuleState) → IsSameInOrder m n → IsReadAgain n → IsReadInOrder m }
 {}
 
 /// The same module prints the same text: the numbers that are written for things without a name, and the room that
