@@ -1,3 +1,4 @@
+use Rattle.ms_reprint.proofs.Names as checked_names
 use Rattle.ms_reprint.proofs.Lines as checked_lines
 use Rattle.ms_reprint.proofs.Limits.{read_within}
 use Rattle.ms_reprint.proofs.laws.within_limits.Goals as goal
