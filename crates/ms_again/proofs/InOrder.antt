@@ -51,7 +51,7 @@ place_when t n e = ap (λ (b : Bool). if b then 0 else n) e
 place_else : (t : Bool) (n : ℕ) → t ≡ false → (if t then 0 else n) ≡ n
 place_else t n e = ap (λ (b : Bool). if b then 0 else n) e
 
-place_less : (ks : List ℕ) (j k : ℕ) → slice_get ks j ≡ Some k → place_in ks k < length ks
+pub place_less : (ks : List ℕ) (j k : ℕ) → slice_get ks j ≡ Some k → place_in ks k < length ks
 place_less [] j k e = absurd (cc)
 place_less (x ∷ ks) zero k e = let same = place_when (x == k) (suc (place_in ks k)) (eq-eqb x k (cc)) in omega arith
 place_less (x ∷ ks) (suc j) k e = by (x == k) refl (place_less ks j k e)
