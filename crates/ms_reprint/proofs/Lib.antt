@@ -2,4 +2,5 @@ pub mod Limits
 pub mod Lines
 pub mod Names
 pub mod Parts
+pub mod Said
 pub mod Sound
