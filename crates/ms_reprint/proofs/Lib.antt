@@ -1,3 +1,4 @@
+pub mod Built
 pub mod Limits
 pub mod Lines
 pub mod Names

@@ -1,3 +1,4 @@
+use Rattle.ms_reprint.proofs.Built as checked_built
 use Rattle.ms_reprint.proofs.Said as checked_said
 use Rattle.ms_reprint.proofs.Names as checked_names
 use Rattle.ms_reprint.proofs.Lines as checked_lines
