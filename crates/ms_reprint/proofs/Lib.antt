@@ -1,4 +1,5 @@
 pub mod Built
+pub mod Faults
 pub mod Limits
 pub mod Lines
 pub mod Names

@@ -126,7 +126,7 @@ local_less f l ty (inr (b, k, x, gives, is)) = by (nat_lt l.0 (length f.params))
         omega arith
 
 -- a member by place is a member
-contains_at : {A : Type 0} (xs : List A) (k : ℕ) (x : A) → slice_get xs k ≡ Some x → Contains xs x
+pub contains_at : {A : Type 0} (xs : List A) (k : ℕ) (x : A) → slice_get xs k ≡ Some x → Contains xs x
 contains_at [] k x e = absurd (cc)
 contains_at (y ∷ ys) zero x e = (zero, omega arith, (let same : y ≡ x = cc in same))
 contains_at (y ∷ ys) (suc k) x e = let r = contains_at ys k x e in (suc r.0, (let l = r.1 in omega arith), r.2)

@@ -155,7 +155,7 @@ reducible_on part f h =
 -- ---- uses
 
 -- the giver of a local in order
-record WasGiver (f : FuncState) (l : LocalNo) (b k : ℕ) (y : Placed) : Type 0 where
+pub record WasGiver (f : FuncState) (l : LocalNo) (b k : ℕ) (y : Placed) : Type 0 where
   pub x : Placed
   pub number : ℕ
   pub gives : IsGiver f.blocks l b k x
@@ -164,7 +164,7 @@ record WasGiver (f : FuncState) (l : LocalNo) (b k : ℕ) (y : Placed) : Type 0 
 local_same : (k l : LocalNo) → k.0 ≡ l.0 → k ≡ l
 local_same k l e = ap (λ (n : ℕ). let m : LocalNo = record { 0 = n } in m) e
 
-was_giver : (f : FuncState) (l : LocalNo) (b k : ℕ) (y : Placed) → IsGiver (ordered f).blocks (ordered_local f l) b k y → WasGiver f l b k y
+pub was_giver : (f : FuncState) (l : LocalNo) (b k : ℕ) (y : Placed) → IsGiver (ordered f).blocks (ordered_local f l) b k y → WasGiver f l b k y
 was_giver f l b k y h =
     let r = at_from f 0 f.blocks b k y h.found in
     by r (r.x.result) refl (ap (λ (z : Placed). z.result) (sym r.is) ∙ h.gives)
@@ -189,7 +189,7 @@ met_on f numbered b k x y at_x at_y c j p met = stands_met (ordered f).blocks y.
     by (inl (i, z, found, is, less)) = let one = numbered.one_place b k c i x z at_x found (sym is) in inl (i, y, moved c i one.0 one.1, refl, less)
     by (inr (a, on, i, z, found, is)) = let one = numbered.one_place b k a i x z at_x found (sym is) in inr (a, on, i, y, moved a i one.0 one.1, refl)
 
-was_local : (f : FuncState) (v : Val) (l : LocalNo) → ordered_val f v ≡ Local l → (m : LocalNo) × (v ≡ Local m) × (ordered_local f m ≡ l)
+pub was_local : (f : FuncState) (v : Val) (l : LocalNo) → ordered_val f v ≡ Local l → (m : LocalNo) × (v ≡ Local m) × (ordered_local f m ≡ l)
 was_local f (Num ty n) l e = absurd (cc)
 was_local f (Local m) l e = (m, refl, (let same : Local (ordered_local f m) ≡ Local l = e in cc))
 was_local f (Global g) l e = absurd (cc)
