@@ -298,7 +298,7 @@ type_back f l ty (inr (b, k, y, gives, is)) =
     let was = was_giver f l b k y gives in
     inr (b, k, was.x, was.gives, sym (same_result (ordered_val f) was.x.inst) ∙ ap (λ (z : Placed). result_type z.inst) (sym was.is) ∙ is)
 
-no_other_type : (f : FuncState) → IsNumbered f → (o p : Operand) → IsValueIn f p.ty p.val → operand_by (ordered_val f) p ≡ o → HasOtherType (ordered f) o → ⊥
+pub no_other_type : (f : FuncState) → IsNumbered f → (o p : Operand) → IsValueIn f p.ty p.val → operand_by (ordered_val f) p ≡ o → HasOtherType (ordered f) o → ⊥
 no_other_type f numbered o p value is (l, ty, val_is, has, other) =
     let was = was_local f p.val l (ap (λ (q : Operand). q.val) is ∙ val_is) in
     let own : HasType f was.0 p.ty = subst (λ (v : Val). IsValueIn f p.ty v) was.1 value in
@@ -309,5 +309,5 @@ args_types : (v : Val → Val) (args : List Arg) → map type_of_arg (map (arg_b
 args_types v [] = refl
 args_types v (a ∷ args) = ap (λ (ts : List Ty). a.ty ∷ ts) (args_types v args)
 
-fits_back : (sig : Sig) (v : Val → Val) (args : List Arg) → valid.ArgsFit sig args → valid.ArgsFit sig (map (arg_by v) args)
+pub fits_back : (sig : Sig) (v : Val → Val) (args : List Arg) → valid.ArgsFit sig args → valid.ArgsFit sig (map (arg_by v) args)
 fits_back sig v args h = ap (λ (ts : List Ty). if sig.variadic then take (length sig.params) ts else ts) (args_types v args) ∙ h

@@ -6,3 +6,4 @@ pub mod Names
 pub mod Parts
 pub mod Said
 pub mod Sound
+pub mod Valid
