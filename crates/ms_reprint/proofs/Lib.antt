@@ -3,6 +3,7 @@ pub mod Faults
 pub mod Limits
 pub mod Lines
 pub mod Names
+pub mod Own
 pub mod Parts
 pub mod Said
 pub mod Sound

@@ -249,7 +249,7 @@ blocks_size (b ∷ bs) =
     let both = length-append (things_of_block b) (flat_map things_of_block bs) in
     omega arith
 
-things_size : (f : FuncState) → length (things f) ≤ size_of f
+pub things_size : (f : FuncState) → length (things f) ≤ size_of f
 things_size f =
     let one = length-map f.params (param_made 0) in
     let rest = blocks_size f.blocks in
