@@ -102,7 +102,7 @@ blocks_both m f (x ∷ bs) g =
     let rest = blocks_both m f bs (λ k y e. g (suc k) y e) in
     ((one.0, rest.0), (one.1, rest.1))
 
-block_insts : (bs : List Block) (b : ℕ) (x : Block) → slice_get bs b ≡ Some x → insts_at bs b ≡ x.insts
+pub block_insts : (bs : List Block) (b : ℕ) (x : Block) → slice_get bs b ≡ Some x → insts_at bs b ≡ x.insts
 block_insts [] b x e = absurd (cc)
 block_insts (y ∷ bs) zero x e = let same : y ≡ x = cc in ap (λ (z : Block). z.insts) same
 block_insts (y ∷ bs) (suc b) x e = block_insts bs b x e

@@ -1,5 +1,6 @@
 pub mod Built
 pub mod Faults
+pub mod Func
 pub mod Limits
 pub mod Lines
 pub mod Names

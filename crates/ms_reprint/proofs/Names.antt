@@ -134,7 +134,7 @@ printed_apart next (m ∷ ms) h apart =
     let more = shown_next next m.name in
     apart_first next m.name ms h apart (printed_apart (free_after next m.name) ms (omega arith) (apart_rest m.name (names_in ms) apart))
 
-named_shown : (next : ℕ) (n : Name) → next < 10 ^ 9 → IsWordOrNone n → IsNamed (shown_name next n)
+pub named_shown : (next : ℕ) (n : Name) → next < 10 ^ 9 → IsWordOrNone n → IsNamed (shown_name next n)
 named_shown next (Word text) h w = w
 named_shown next (Number k) h w = subst (λ n. IsNamed n) (sym (numbered_is next h)) h
 named_shown next Absent h w = subst (λ n. IsNamed n) (sym (numbered_is next h)) h
