@@ -38,7 +38,7 @@ shown_again next (Word text) h = record { name = refl; free = refl; high = tt }
 shown_again next (Number k) h = number_again next (Number k) refl refl h
 shown_again next Absent h = number_again next Absent refl refl h
 
-absent_again : (next : ℕ) (n : Name) → shown_name next n ≡ numbered next → free_after next n ≡ next + 1 → next < 10 ^ 9 → IsAgain next Absent n
+pub absent_again : (next : ℕ) (n : Name) → shown_name next n ≡ numbered next → free_after next n ≡ next + 1 → next < 10 ^ 9 → IsAgain next Absent n
 absent_again next n shown free h = record { name = sym (shown ∙ numbered_is next h); free = sym free; high = tt }
 
 -- things that are read as they are printed
@@ -47,20 +47,20 @@ AreAgain next [] [] = Unit {0}
 AreAgain next (n ∷ ns) (m ∷ ms) = (n.is_block ≡ m.is_block) × IsAgain next n.name m.name × AreAgain (free_after next m.name) ns ms
 AreAgain next _ _ = ⊥
 
-again_join : (next : ℕ) (ns ms us vs : List Made) → AreAgain next ns ms → AreAgain (free_by shown next ms) us vs → AreAgain next (ns ++ us) (ms ++ vs)
+pub again_join : (next : ℕ) (ns ms us vs : List Made) → AreAgain next ns ms → AreAgain (free_by shown next ms) us vs → AreAgain next (ns ++ us) (ms ++ vs)
 again_join next [] [] us vs h k = k
 again_join next [] (m ∷ ms) us vs h k = absurd h
 again_join next (n ∷ ns) [] us vs h k = absurd h
 again_join next (n ∷ ns) (m ∷ ms) us vs h k = (h.0, h.1, again_join (free_after next m.name) ns ms us vs h.2 k)
 
 -- parameters
-params_again : (row line next : ℕ) (ps : List Param) → next + length ps ≤ 10 ^ 9 → AreAgain next (map (param_made row) (shown_params next ps)) (map (param_made line) ps)
+pub params_again : (row line next : ℕ) (ps : List Param) → next + length ps ≤ 10 ^ 9 → AreAgain next (map (param_made row) (shown_params next ps)) (map (param_made line) ps)
 params_again row line next [] h = tt
 params_again row line next (p ∷ ps) h =
     let more = shown_next next p.name in
     (refl, shown_again next p.name (omega arith), params_again row line (free_after next p.name) ps (omega arith))
 
-params_next : (line next : ℕ) (ps : List Param) → free_by shown next (map (param_made line) ps) ≡ params_free shown next ps
+pub params_next : (line next : ℕ) (ps : List Param) → free_by shown next (map (param_made line) ps) ≡ params_free shown next ps
 params_next line next [] = refl
 params_next line next (p ∷ ps) = params_next line (free_after next p.name) ps
 
@@ -82,18 +82,18 @@ makes_again r (Select cond ty a b rest) = refl
 makes_again r (Cast op flags from a to rest) = refl
 makes_again r (Phi ty entries rest) = refl
 
-abbrev made_as : ℕ → Name → Bool → List Made
+abbrev pub made_as : ℕ → Name → Bool → List Made
 made_as line name b = if b then record { line = line; is_block = false; name = name } ∷ [] else []
 
-one_again : (row line next : ℕ) (n : Name) (b : Bool) → next < 10 ^ 9 → AreAgain next (made_as row (if b then shown_name next n else Absent) b) (made_as line n b)
+pub one_again : (row line next : ℕ) (n : Name) (b : Bool) → next < 10 ^ 9 → AreAgain next (made_as row (if b then shown_name next n else Absent) b) (made_as line n b)
 one_again row line next n true h = (refl, shown_again next n h, tt)
 one_again row line next n false h = tt
 
-one_next : (line next : ℕ) (n : Name) (b : Bool) → free_by shown next (made_as line n b) ≡ (if b then free_after next n else next)
+pub one_next : (line next : ℕ) (n : Name) (b : Bool) → free_by shown next (made_as line n b) ≡ (if b then free_after next n else next)
 one_next line next n true = refl
 one_next line next n false = refl
 
-one_less : (next : ℕ) (n : Name) (b : Bool) → (if b then free_after next n else next) ≤ next + 1
+pub one_less : (next : ℕ) (n : Name) (b : Bool) → (if b then free_after next n else next) ≤ next + 1
 one_less next n true = shown_next next n
 one_less next n false = omega arith
 
@@ -111,7 +111,7 @@ insts_made r row next (x ∷ xs) h =
     again_join next (made_as row name (makes (renamed_inst r x.inst))) (inst_made x) (flat_map inst_made (insts_again r (row + 1) (inst_free shown next x) xs)) (flat_map inst_made xs) one
     (subst (λ k. AreAgain k (flat_map inst_made (insts_again r (row + 1) (inst_free shown next x) xs)) (flat_map inst_made xs)) (sym (one_next x.line next x.name (makes x.inst))) rest)
 
-free_join : (next : ℕ) (xs ys : List Made) → free_by shown next (xs ++ ys) ≡ free_by shown (free_by shown next xs) ys
+pub free_join : (next : ℕ) (xs ys : List Made) → free_by shown next (xs ++ ys) ≡ free_by shown (free_by shown next xs) ys
 free_join next [] ys = refl
 free_join next (x ∷ xs) ys = free_join (free_after next x.name) xs ys
 
@@ -128,15 +128,15 @@ pub block_less : (next : ℕ) (b : BlockLines) → block_free shown next b ≤ n
 block_less next b = let more = shown_next next (label_name b.label) in let rest = insts_less (free_after next (label_name b.label)) b.insts in omega arith
 
 -- labels
-label_block : (n : ℕ) (l : Option LabelLine) → (label_made n l).is_block ≡ true
+pub label_block : (n : ℕ) (l : Option LabelLine) → (label_made n l).is_block ≡ true
 label_block n None = refl
 label_block n (Some l) = refl
 
-label_named : (n : ℕ) (l : Option LabelLine) → (label_made n l).name ≡ label_name l
+pub label_named : (n : ℕ) (l : Option LabelLine) → (label_made n l).name ≡ label_name l
 label_named n None = refl
 label_named n (Some l) = refl
 
-label_is_again : (first : Bool) (row next : ℕ) (n : Name) → next < 10 ^ 9 → IsAgain next (label_name (label_again first row next n)) n
+pub label_is_again : (first : Bool) (row next : ℕ) (n : Name) → next < 10 ^ 9 → IsAgain next (label_name (label_again first row next n)) n
 label_is_again true row next (Word text) h = record { name = refl; free = refl; high = tt }
 label_is_again true row next (Number k) h = absent_again next (Number k) refl refl h
 label_is_again true row next Absent h = absent_again next Absent refl refl h
@@ -184,10 +184,10 @@ func_made row f h =
     (blocks_made (renaming f) true (row + 1) row f.line (start f) f.blocks (omega arith)))
 
 -- what is a block, and which name it has
-abbrev key_of : Made → Bool × Name
+abbrev pub key_of : Made → Bool × Name
 key_of m = (m.is_block, m.name)
 
-keys_again : (next : ℕ) (ns ms : List Made) → AreAgain next ns ms → map key_of (named_from next ns) ≡ map key_of (named_by shown next ms)
+pub keys_again : (next : ℕ) (ns ms : List Made) → AreAgain next ns ms → map key_of (named_from next ns) ≡ map key_of (named_by shown next ms)
 keys_again next [] [] h = refl
 keys_again next [] (m ∷ ms) h = absurd h
 keys_again next (n ∷ ns) [] h = absurd h
@@ -197,15 +197,15 @@ keys_again next (n ∷ ns) (m ∷ ms) h =
     ∙ ap (λ k. (m.is_block, shown_name next m.name) ∷ map key_of (named_from k ns)) h.1.free
     ∙ ap (λ (rest : List (Bool × Name)). (m.is_block, shown_name next m.name) ∷ rest) (keys_again (free_after next m.name) ns ms h.2)
 
-abbrev locals_by_key : List (Bool × Name) → List Name
+abbrev pub locals_by_key : List (Bool × Name) → List Name
 locals_by_key [] = []
 locals_by_key (k ∷ ks) = if k.0 then locals_by_key ks else k.1 ∷ locals_by_key ks
 
-abbrev blocks_by_key : List (Bool × Name) → List Name
+abbrev pub blocks_by_key : List (Bool × Name) → List Name
 blocks_by_key [] = []
 blocks_by_key (k ∷ ks) = if k.0 then k.1 ∷ blocks_by_key ks else blocks_by_key ks
 
-abbrev name_by_key : Bool × Name → Name
+abbrev pub name_by_key : Bool × Name → Name
 name_by_key k = k.1
 
 one_local : (b : Bool) (m : Made) (ms : List Made) → map name_of_made (cond (not b) (m ∷ ms) ms) ≡ (if b then map name_of_made ms else m.name ∷ map name_of_made ms)
@@ -216,17 +216,17 @@ one_block : (b : Bool) (m : Made) (ms : List Made) → map name_of_made (cond b 
 one_block true m ms = refl
 one_block false m ms = refl
 
-locals_keyed : (ms : List Made) → locals_in ms ≡ locals_by_key (map key_of ms)
+pub locals_keyed : (ms : List Made) → locals_in ms ≡ locals_by_key (map key_of ms)
 locals_keyed [] = refl
 locals_keyed (m ∷ ms) =
     one_local m.is_block m (filter (λ (m : Made). not m.is_block) ms) ∙ ap (λ (ns : List Name). if m.is_block then ns else m.name ∷ ns) (locals_keyed ms)
 
-blocks_keyed : (ms : List Made) → blocks_in ms ≡ blocks_by_key (map key_of ms)
+pub blocks_keyed : (ms : List Made) → blocks_in ms ≡ blocks_by_key (map key_of ms)
 blocks_keyed [] = refl
 blocks_keyed (m ∷ ms) =
     one_block m.is_block m (filter (λ (m : Made). m.is_block) ms) ∙ ap (λ (ns : List Name). if m.is_block then m.name ∷ ns else ns) (blocks_keyed ms)
 
-names_keyed : (ms : List Made) → names_in ms ≡ map name_by_key (map key_of ms)
+pub names_keyed : (ms : List Made) → names_in ms ≡ map name_by_key (map key_of ms)
 names_keyed [] = refl
 names_keyed (m ∷ ms) = ap (λ (ns : List Name). m.name ∷ ns) (names_keyed ms)
 

@@ -13,7 +13,7 @@ use Rattle.ms_grammar.specs.declared.keyword.Keyword.TheVariants as word
 use Rattle.ms_grammar.proofs.Printing.{text_of_append}
 use Rattle.ms_read.specs.Rows.{rows_of}
 use Rattle.ms_read.specs.Draft.{IsDraft, Say}
-use Rattle.ms_read.specs.Told.{IsSaid, IsPlaced, sorts_of}
+use Rattle.ms_read.specs.Told.{IsSaid}
 use Rattle.ms_resolve.specs.Shape.{InstLine, BlockLines, FuncLines, ItemLines, plain, body, item_lines, func_lines, IsItem}
 use Rattle.ms_resolve.specs.Made.{makes, param_made, inst_made, block_made, made_in}
 use Rattle.ms_resolve.specs.Faults.{IsIn}
@@ -21,16 +21,18 @@ use Rattle.ms_resolve.specs.Module.{module_of}
 use Rattle.ms_print.specs.Numbering.{free_after}
 use Rattle.ms_print.specs.Text.{module_text}
 use Rattle.ms_print.proofs.NumberingLemmas.{shown_params-length}
+use Rattle.ms_again.specs.Basis.{IsBasis}
 use Rattle.ms_again.proofs.Renaming.{Renaming, renamed_term}
 use Rattle.ms_again.proofs.Renamed.{with_params}
 use Rattle.ms_again.proofs.Fine.{IsFine, read_fine, read_kept}
 use Rattle.ms_again.proofs.Names.{shown, label_name, inst_free, block_free, made_if, blocks_size, size_of}
 use Rattle.ms_again.proofs.Again.{renaming, insts_said, label_said, block_said, blocks_said, start, func_said, gap_said, items_said, items_again, IsWholeItem, items_numbered}
 use Rattle.ms_again.proofs.Printed.{row_text, rows_text, module_rows}
-use Rattle.ms_again.proofs.Sites.{each_at, at_each, IsFineEntry, IsFineFunc, fine_func}
-use Rattle.ms_again.proofs.Known.{IsSound, IsFineItem, items_known}
+use Rattle.ms_again.proofs.Quiet.{IsPrinted}
+use Rattle.ms_again.proofs.Sites.{each_at, at_each, IsEntryBy, IsFineEntry, IsFineFunc, func_by, fine_func}
+use Rattle.ms_again.proofs.Known.{IsSound, IsItemBy, items_known}
 use Rattle.ms_again.proofs.Uses.{are_right, lines_right}
-use Rattle.ms_again.proofs.Lines.{IsFineNamed, IsFineWhole, items_fine, rows_are, all_say}
+use Rattle.ms_again.proofs.Lines.{IsFineNamed, IsFineWhole, items_fine, rows_are, all_printed, all_say}
 use Rattle.ms_again.proofs.Placed.{module_lead}
 
 -- each thing that a function makes takes a byte of its text
@@ -77,7 +79,7 @@ listed_long (m ∷ ms) =
 parts_long : (ps qs : List Part) → length (text_of (ps ++ qs)) ≡ length (text_of ps) + length (text_of qs)
 parts_long ps qs = ap length (text_of_append ps qs) ∙ length-append (text_of ps) (text_of qs)
 
-define_long : (h : Head) → length h.params ≤ 1 + length (printed (said.Define h))
+pub define_long : (h : Head) → length h.params ≤ 1 + length (printed (said.Define h))
 define_long h =
     let members = map param_parts h.params ++ dots_parts h.variadic in
     let front = front_parts word.Define h in
@@ -155,12 +157,6 @@ made_size f =
     let some = made_blocks f.line f.blocks in
     omega arith
 
--- what is known of items whose lines rows say
-pub record IsBasis (items : List ItemLines) : Type 0 where
-  pub each : Each IsItem items
-  pub said_all : Each (λ item. Each (λ (e : ℕ × Line). IsSaid e.1) (item_lines item)) items
-  pub placed : IsPlaced (sorts_of (flat_map item_lines items))
-
 said_fine : (l : Line) → IsSaid l → IsFine l
 said_fine l h = read_fine h.row l h.read
 
@@ -168,7 +164,7 @@ entries_fine : (ls : List (ℕ × Line)) → Each (λ (e : ℕ × Line). IsSaid 
 entries_fine [] h = tt
 entries_fine (l ∷ ls) h = (said_fine l.1 h.0, entries_fine ls h.1)
 
-basis_fine : (items : List ItemLines) → Each (λ item. Each (λ (e : ℕ × Line). IsSaid e.1) (item_lines item)) items → Each IsFineItem items
+basis_fine : (items : List ItemLines) → Each (λ item. Each (λ (e : ℕ × Line). IsSaid e.1) (item_lines item)) items → Each (IsItemBy IsFine) items
 basis_fine [] h = tt
 basis_fine (plain n line ∷ rest) h = (tt, basis_fine rest h.1)
 basis_fine (body f ∷ rest) h = (fine_func f (entries_fine (func_lines f) h.0), basis_fine rest h.1)
@@ -186,7 +182,7 @@ pub module_named : (effects : List ℕ → Effects) (keeps : List ℕ → Bool) 
     length (rows_text (items_said None items)) < 10 ^ 9 → AreNamed items
 module_named effects keeps spare items sound basis few = record {
   each = λ f il.
-      let fine : IsFineFunc f = at_each IsFineItem items il.0 (body f) (basis_fine items basis.said_all) il.1 in
+      let fine : IsFineFunc f = at_each (IsItemBy IsFine) items il.0 (body f) (basis_fine items basis.said_all) il.1 in
       let n = length (rows_text (items_said None items)) in
       let made : size_of f ≤ 1 + n = at_each (AreFewMade n) items il.0 (body f) (items_few n None items (omega arith)) il.1 in
       let less = made_size f in
@@ -198,11 +194,23 @@ whole_item : (items : List ItemLines) → AreNamed items → (item : ItemLines) 
 whole_item items named (plain n line) on h = said_fine line h.0
 whole_item items named (body f) on h = named.each f on
 
--- the text
+-- the text, of items whose lines are said
+said_printed : (ls : List (ℕ × Line)) → Each (λ (e : ℕ × Line). IsSaid e.1) ls → Each (IsEntryBy IsPrinted) ls
+said_printed [] h = tt
+said_printed (l ∷ ls) h = ((said_fine l.1 h.0).whole, said_printed ls h.1)
+
+basis_printed : (items : List ItemLines) → Each (λ item. Each (λ (e : ℕ × Line). IsSaid e.1) (item_lines item)) items → Each (IsItemBy IsPrinted) items
+basis_printed [] h = tt
+basis_printed (plain n line ∷ rest) h = (tt, basis_printed rest h.1)
+basis_printed (body f ∷ rest) h = (func_by IsPrinted f (said_printed (func_lines f) h.0), basis_printed rest h.1)
+
+pub text_printed : (effects : List ℕ → Effects) (keeps : List ℕ → Bool) (spare : List ℕ → ℕ) (items : List ItemLines) → IsSound effects keeps spare items → Each IsItem items → Each (IsItemBy IsPrinted) items →
+    module_text (module_of effects keeps spare items) ≡ rows_text (items_said None items)
+text_printed effects keeps spare items sound each said = module_rows effects keeps spare items each (items_known effects keeps spare items sound said)
+
 pub text_is : (effects : List ℕ → Effects) (keeps : List ℕ → Bool) (spare : List ℕ → ℕ) (items : List ItemLines) → IsSound effects keeps spare items → IsBasis items →
     module_text (module_of effects keeps spare items) ≡ rows_text (items_said None items)
-text_is effects keeps spare items sound basis =
-    module_rows effects keeps spare items basis.each (items_known effects keeps spare items sound (basis_fine items basis.said_all))
+text_is effects keeps spare items sound basis = text_printed effects keeps spare items sound basis.each (basis_printed items basis.said_all)
 
 pub text_read : (effects : List ℕ → Effects) (keeps : List ℕ → Bool) (spare : List ℕ → ℕ) (items : List ItemLines) → IsSound effects keeps spare items → IsBasis items → AreNamed items →
     IsDraft (module_text (module_of effects keeps spare items)) (flat_map item_lines (items_again 1 None items))
@@ -210,7 +218,7 @@ text_read effects keeps spare items sound basis named =
     let lines = items_said None items in
     let fine : Each IsFine lines = items_fine None items basis.each
     (each_at IsFineWhole items (λ k item e. whole_item items named item (k, e) (at_each (λ (item : ItemLines). Each (λ (e : ℕ × Line). IsSaid e.1) (item_lines item)) items k item basis.said_all e))) in
-    let rows : rows_of (module_text (module_of effects keeps spare items)) ≡ map printed lines = ap rows_of (text_is effects keeps spare items sound basis) ∙ rows_are lines fine in
+    let rows : rows_of (module_text (module_of effects keeps spare items)) ≡ map printed lines = ap rows_of (text_is effects keeps spare items sound basis) ∙ rows_are lines (all_printed lines fine) in
     record {
       lines = lines;
       end = basis.placed.end;

@@ -10,7 +10,7 @@ use Rattle.ms_grammar.specs.Kept.{Each}
 use Rattle.ms_grammar.specs.Form.{Scale, name_text, printed}
 use Rattle.ms_grammar.specs.Fits.{IsNamed, MayBeNamed, IsValue, IsArg, IsParam, IsEntryOf, FitsInst, FitsTerm, IsMade}
 use Rattle.ms_grammar.specs.Limits.{IsShort, names_of_value, names_of_arg, names_of_param, names_of_entry, names_of_inst, names_of_term, IsSmallInst, IsWithinLimits}
-use Rattle.ms_grammar.specs.Grammar.{kept_of, without_name}
+use Rattle.ms_grammar.specs.Grammar.{Says, kept_of, without_name}
 use Rattle.ms_grammar.specs.declared.line.Head.{Head}
 use Rattle.ms_grammar.specs.declared.line.Line.{Line}
 use Rattle.ms_grammar.specs.declared.line.Line.TheVariants as said
@@ -48,6 +48,28 @@ IsGoodVal r (Global n) = Unit {0}
 abbrev pub IsGoodBlock : Renaming → Name → Type 0
 IsGoodBlock r n = IsGood (r.block n)
 
+-- the same without limits
+abbrev pub IsFitVal : Renaming → RawVal → Type 0
+IsFitVal r (Num ty n) = Unit {0}
+IsFitVal r (Local n) = IsNamed (r.local n)
+IsFitVal r (Global n) = Unit {0}
+
+abbrev pub IsFitBlock : Renaming → Name → Type 0
+IsFitBlock r n = IsNamed (r.block n)
+
+fit_val : (r : Renaming) (v : RawVal) → IsGoodVal r v → IsFitVal r v
+fit_val r (Num ty n) h = tt
+fit_val r (Local n) h = h.0
+fit_val r (Global n) h = tt
+
+fit_vals : (r : Renaming) (vs : List RawVal) → Each (IsGoodVal r) vs → Each (IsFitVal r) vs
+fit_vals r [] h = tt
+fit_vals r (v ∷ vs) h = (fit_val r v h.0, fit_vals r vs h.1)
+
+fit_blocks : (r : Renaming) (ns : List Name) → Each (IsGoodBlock r) ns → Each (IsFitBlock r) ns
+fit_blocks r [] h = tt
+fit_blocks r (n ∷ ns) h = (h.0.0, fit_blocks r ns h.1)
+
 -- members of lists
 pub each_join : {X : Type 0} (P : X → Type 0) (xs ys : List X) → Each P xs → Each P ys → Each P (xs ++ ys)
 each_join P [] ys a b = b
@@ -62,25 +84,25 @@ each_second P [] ys h = h
 each_second P (x ∷ xs) ys h = each_second P xs ys h.1
 
 -- values
-fits_val : (r : Renaming) (ty : Ty) (v : RawVal) → IsValue ty v → IsGoodVal r v → IsValue ty (renamed_val r v)
+fits_val : (r : Renaming) (ty : Ty) (v : RawVal) → IsValue ty v → IsFitVal r v → IsValue ty (renamed_val r v)
 fits_val r ty (Num own n) h g = h
-fits_val r ty (Local n) h g = g.0
+fits_val r ty (Local n) h g = g
 fits_val r ty (Global n) h g = h
 
-fits_args : (r : Renaming) (args : List RawArg) → Each IsArg args → Each (IsGoodVal r) (map arg_value args) → Each IsArg (map (renamed_arg r) args)
+fits_args : (r : Renaming) (args : List RawArg) → Each IsArg args → Each (IsFitVal r) (map arg_value args) → Each IsArg (map (renamed_arg r) args)
 fits_args r [] h g = tt
 fits_args r (a ∷ args) h g = (fits_val r a.ty a.val h.0 g.0, fits_args r args h.1 g.1)
 
-fits_entries : (r : Renaming) (ty : Ty) (es : List RawEntry) → Each (IsEntryOf ty) es → Each (IsGoodVal r) (map entry_value es) → Each (IsGoodBlock r) (map entry_block es) →
+fits_entries : (r : Renaming) (ty : Ty) (es : List RawEntry) → Each (IsEntryOf ty) es → Each (IsFitVal r) (map entry_value es) → Each (IsFitBlock r) (map entry_block es) →
     Each (IsEntryOf ty) (map (renamed_entry r) es)
 fits_entries r ty [] h g b = tt
-fits_entries r ty (e ∷ es) h g b = ((fits_val r ty e.val h.0.0 g.0, b.0.0), fits_entries r ty es h.1 g.1 b.1)
+fits_entries r ty (e ∷ es) h g b = ((fits_val r ty e.val h.0.0 g.0, b.0), fits_entries r ty es h.1 g.1 b.1)
 
 some_entries : (r : Renaming) (es : List RawEntry) → (es ≡ [] → ⊥) → map (renamed_entry r) es ≡ [] → ⊥
 some_entries r [] h e = h refl
 some_entries r (x ∷ es) h e = absurd (cc)
 
-fits_inst : (r : Renaming) (scale : Scale) (i : RawInst) → FitsInst scale i → Each (IsGoodVal r) (values_of i) → Each (IsGoodBlock r) (inst_blocks i) → FitsInst scale (renamed_inst r i)
+pub fits_inst : (r : Renaming) (scale : Scale) (i : RawInst) → FitsInst scale i → Each (IsFitVal r) (values_of i) → Each (IsFitBlock r) (inst_blocks i) → FitsInst scale (renamed_inst r i)
 fits_inst r scale (Alloca size head rest) h g b = h
 fits_inst r scale (Gep base offset head index rest) h g b = (fits_val r Ptr base h.0 g.0, h.1, h.2)
 fits_inst r scale (Load ty ptr rest) h g b = (h.0, fits_val r Ptr ptr h.1 g.0)
@@ -93,9 +115,9 @@ fits_inst r scale (Select cond ty x y rest) h g b = (fits_val r I1 cond h.0 g.0,
 fits_inst r scale (Cast op flags from x to rest) h g b = (h.0, h.1, h.2, h.3, fits_val r from x h.4 g.0)
 fits_inst r scale (Phi ty entries rest) h g b = (some_entries r entries h.0, fits_entries r ty entries h.1 g b)
 
-fits_term : (r : Renaming) (t : RawTerm) → FitsTerm t → Each (IsGoodVal r) (term_values t) → Each (IsGoodBlock r) (term_blocks t) → FitsTerm (renamed_term r t)
-fits_term r (Br to rest) h g b = b.0.0
-fits_term r (CondBr cond if_true if_false rest) h g b = (fits_val r I1 cond h.0 g.0, b.0.0, b.1.0.0)
+pub fits_term : (r : Renaming) (t : RawTerm) → FitsTerm t → Each (IsFitVal r) (term_values t) → Each (IsFitBlock r) (term_blocks t) → FitsTerm (renamed_term r t)
+fits_term r (Br to rest) h g b = b.0
+fits_term r (CondBr cond if_true if_false rest) h g b = (fits_val r I1 cond h.0 g.0, b.0, b.1.0)
 fits_term r (Ret None rest) h g b = h
 fits_term r (Ret (Some given) rest) h g b = (h.0, fits_val r given.0 given.1 h.1 g.0)
 fits_term r (Unreachable rest) h g b = h
@@ -104,26 +126,26 @@ fits_term r (Unreachable rest) h g b = h
 abbrev pub made_name : RawInst → Name → Name
 made_name i n = if makes i then n else name.Absent
 
-good_made : (n : Name) → IsGood n → MayBeNamed n
-good_made (name.Word text) h = h.0
-good_made (name.Number n) h = h.0
+good_made : (n : Name) → IsNamed n → MayBeNamed n
+good_made (name.Word text) h = h
+good_made (name.Number n) h = h
 good_made name.Absent h = tt
 
-fits_made : (r : Renaming) (i : RawInst) (n : Name) → (makes i ≡ true → IsGood n) → IsMade (made_name i n) (renamed_inst r i)
-fits_made r (Alloca size head rest) n h = (h refl).0
-fits_made r (Gep base offset head index rest) n h = (h refl).0
-fits_made r (Load ty ptr rest) n h = (h refl).0
+pub fits_made : (r : Renaming) (i : RawInst) (n : Name) → (makes i ≡ true → IsNamed n) → IsMade (made_name i n) (renamed_inst r i)
+fits_made r (Alloca size head rest) n h = h refl
+fits_made r (Gep base offset head index rest) n h = h refl
+fits_made r (Load ty ptr rest) n h = h refl
 fits_made r (Store ty val ptr rest) n h = refl
 fits_made r (Copy to from len head behind rest) n h = refl
 fits_made r (Call callee None args head behind rest) n h = refl
 fits_made r (Call callee (Some ret) args head behind rest) n h = good_made n (h refl)
-fits_made r (Bin op flags ty x y rest) n h = (h refl).0
-fits_made r (Cmp pred flags ty x y rest) n h = (h refl).0
-fits_made r (Select cond ty x y rest) n h = (h refl).0
-fits_made r (Cast op flags from x to rest) n h = (h refl).0
-fits_made r (Phi ty entries rest) n h = (h refl).0
+fits_made r (Bin op flags ty x y rest) n h = h refl
+fits_made r (Cmp pred flags ty x y rest) n h = h refl
+fits_made r (Select cond ty x y rest) n h = h refl
+fits_made r (Cast op flags from x to rest) n h = h refl
+fits_made r (Phi ty entries rest) n h = h refl
 
-named_made : (b : Bool) (n : Name) → (b ≡ true → IsGood n) → MayBeNamed (if b then n else name.Absent)
+pub named_made : (b : Bool) (n : Name) → (b ≡ true → IsNamed n) → MayBeNamed (if b then n else name.Absent)
 named_made true n h = good_made n (h refl)
 named_made false n h = tt
 
@@ -201,23 +223,31 @@ small_inst r (Cast op flags from x to rest) h = tt
 small_inst r (Phi ty entries rest) h = tt
 
 -- each line again
+pub inst_printed : (r : Renaming) (n m : Name) (bytes : List ℕ) (i : RawInst) → Says bytes (said.Inst n i) → Each (IsFitVal r) (values_of i) → Each (IsFitBlock r) (inst_blocks i) → (makes i ≡ true → IsNamed m) →
+    IsPrinted (said.Inst (made_name i m) (renamed_inst r i))
+inst_printed r n m bytes i says g b named =
+    let fits = fits_inst r says.scale i says.fits.1 g b in
+    printed_by bytes (said.Inst n i) (said.Inst (made_name i m) (renamed_inst r i)) says
+    (inst_line_back r n (made_name i m) says.scale i (named_made (makes i) m named) fits) (fits_made r i m named, fits)
+
+pub term_printed : (r : Renaming) (bytes : List ℕ) (t : RawTerm) → Says bytes (said.Term t) → Each (IsFitVal r) (term_values t) → Each (IsFitBlock r) (term_blocks t) → IsPrinted (said.Term (renamed_term r t))
+term_printed r bytes t says g b =
+    let fits = fits_term r t says.fits g b in
+    printed_by bytes (said.Term t) (said.Term (renamed_term r t)) says (term_line_back r says.scale t fits) fits
+
 pub inst_fine : (r : Renaming) (n m : Name) (i : RawInst) → IsFine (said.Inst n i) → Each (IsGoodVal r) (values_of i) → Each (IsGoodBlock r) (inst_blocks i) → (makes i ≡ true → IsGood m) →
     IsFine (said.Inst (made_name i m) (renamed_inst r i))
 inst_fine r n m i h g b good =
     let says = h.whole.says in
-    let fits = fits_inst r says.scale i says.fits.1 g b in
     record {
-      whole = printed_by (printed (said.Inst n i)) (said.Inst n i) (said.Inst (made_name i m) (renamed_inst r i)) says
-          (inst_line_back r n (made_name i m) says.scale i (named_made (makes i) m good) fits) (fits_made r i m good, fits);
+      whole = inst_printed r n m (printed (said.Inst n i)) i says (fit_vals r (values_of i) g) (fit_blocks r (inst_blocks i) b) (λ e. (good e).0);
       within = ((short_made (makes i) m good, short_inst r i h.within.0.1 g b), small_inst r i h.within.1);
     }
 
 pub term_fine : (r : Renaming) (t : RawTerm) → IsFine (said.Term t) → Each (IsGoodVal r) (term_values t) → Each (IsGoodBlock r) (term_blocks t) → IsFine (said.Term (renamed_term r t))
 term_fine r t h g b =
-    let says = h.whole.says in
-    let fits = fits_term r t says.fits g b in
     record {
-      whole = printed_by (printed (said.Term t)) (said.Term t) (said.Term (renamed_term r t)) says (term_line_back r says.scale t fits) fits;
+      whole = term_printed r (printed (said.Term t)) t h.whole.says (fit_vals r (term_values t) g) (fit_blocks r (term_blocks t) b);
       within = (short_term r t h.within.0 g b, tt);
     }
 
@@ -234,7 +264,7 @@ IsGoodParam p = IsGood p.name
 
 good_params : (ps : List Param) → Each IsGoodParam ps → Each IsParam ps
 good_params [] h = tt
-good_params (p ∷ ps) h = (good_made p.name h.0, good_params ps h.1)
+good_params (p ∷ ps) h = (good_made p.name h.0.0, good_params ps h.1)
 
 short_params : (ps : List Param) → Each IsGoodParam ps → Shorts (flat_map names_of_param ps)
 short_params [] h = tt

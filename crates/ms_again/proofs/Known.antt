@@ -7,6 +7,7 @@ use Rattle.ms_ir.specs.declared.inst.Effects.{Effects}
 use Rattle.ms_grammar.specs.Kept.{Each}
 use Rattle.ms_grammar.specs.Form.{Scale, name_text}
 use Rattle.ms_grammar.specs.Fits.{IsWordName, FitsInst, FitsTerm}
+use Rattle.ms_grammar.specs.declared.line.Line.{Line}
 use Rattle.ms_grammar.specs.declared.line.RawVal.{RawVal}
 use Rattle.ms_grammar.specs.declared.line.RawVal.TheVariants.{Num, Local, Global}
 use Rattle.ms_grammar.specs.declared.line.RawInst.{RawInst}
@@ -23,8 +24,9 @@ use Rattle.ms_valid.specs.Faults.{HasInst, HasTerm, HasTypeFault}
 use Rattle.ms_valid.specs.Faults as valid
 use Rattle.ms_valid.proofs.BuiltLemmas.{at_built, from_term}
 use Rattle.ms_valid.proofs.ListLemmas.{in_here, in_left, in_right, flat_in}
+use Rattle.ms_again.proofs.Quiet.{IsPrinted}
 use Rattle.ms_again.proofs.Printed.{IsKnownVal, IsKnownCall, IsKnownInst, IsKnownBlock, IsKnownFunc, IsKnownItem}
-use Rattle.ms_again.proofs.Sites.{each_at, at_each, IsFineBlock, IsFineFunc, IsNamedVal, inst_values, term_named, name_again, symbol_known, built, body_at, func_in, func_there}
+use Rattle.ms_again.proofs.Sites.{each_at, at_each, IsBlockBy, IsFuncBy, IsNamedVal, inst_values, term_named, name_again, symbol_known, built, body_at, func_in, func_there}
 
 -- a module without faults in names and types, seen at one function
 pub record IsSound (effects : List ℕ → Effects) (keeps : List ℕ → Bool) (spare : List ℕ → ℕ) (items : List ItemLines) : Type 0 where
@@ -97,28 +99,28 @@ term_known effects keeps spare items sound p f at b block block_is fits =
     (term_named block.end.term fits)
 
 func_known : (effects : List ℕ → Effects) (keeps : List ℕ → Bool) (spare : List ℕ → ℕ) (items : List ItemLines) → IsSound effects keeps spare items → (p : ℕ) (f : FuncLines) → slice_get (funcs_of items) p ≡ Some f →
-    IsFineFunc f → IsKnownFunc (names_of items) f
+    IsFuncBy IsPrinted f → IsKnownFunc (names_of items) f
 func_known effects keeps spare items sound p f at fine = record {
   blocks = each_at (IsKnownBlock (names_of items)) f.blocks (λ b block block_is.
-      let fine_block = at_each IsFineBlock f.blocks b block fine.blocks block_is in
+      let fine_block = at_each (IsBlockBy IsPrinted) f.blocks b block fine.blocks block_is in
       record {
         insts = each_at (λ (x : InstLine). IsKnownInst (names_of items) x.inst) block.insts (λ k x line_is.
-            let says = (at_each _ block.insts k x fine_block.insts line_is).whole.says in
+            let says = (at_each _ block.insts k x fine_block.insts line_is).says in
             inst_known effects keeps spare items sound p f at b k block x block_is line_is says.scale says.fits.1);
-        term = term_known effects keeps spare items sound p f at b block block_is fine_block.term.whole.says.fits;
+        term = term_known effects keeps spare items sound p f at b block block_is fine_block.term.says.fits;
       });
-  fixed = fine.define.whole.says.fits.2;
+  fixed = fine.define.says.fits.2;
 }
 
--- items of fine lines
-abbrev pub IsFineItem : ItemLines → Type 0
-IsFineItem (plain n line) = Unit {0}
-IsFineItem (body f) = IsFineFunc f
+-- items of lines of which each has a property
+abbrev pub IsItemBy : (Line → Type 0) → ItemLines → Type 0
+IsItemBy P (plain n line) = Unit {0}
+IsItemBy P (body f) = IsFuncBy P f
 
-item_known : (effects : List ℕ → Effects) (keeps : List ℕ → Bool) (spare : List ℕ → ℕ) (items : List ItemLines) → IsSound effects keeps spare items → (item : ItemLines) → IsIn items item → IsFineItem item → IsKnownItem (names_of items) item
+item_known : (effects : List ℕ → Effects) (keeps : List ℕ → Bool) (spare : List ℕ → ℕ) (items : List ItemLines) → IsSound effects keeps spare items → (item : ItemLines) → IsIn items item → IsItemBy IsPrinted item → IsKnownItem (names_of items) item
 item_known effects keeps spare items sound (plain n line) on fine = tt
 item_known effects keeps spare items sound (body f) on fine = let there = func_there items f on in func_known effects keeps spare items sound there.0 f there.1 fine
 
-pub items_known : (effects : List ℕ → Effects) (keeps : List ℕ → Bool) (spare : List ℕ → ℕ) (items : List ItemLines) → IsSound effects keeps spare items → Each IsFineItem items → Each (IsKnownItem (names_of items)) items
+pub items_known : (effects : List ℕ → Effects) (keeps : List ℕ → Bool) (spare : List ℕ → ℕ) (items : List ItemLines) → IsSound effects keeps spare items → Each (IsItemBy IsPrinted) items → Each (IsKnownItem (names_of items)) items
 items_known effects keeps spare items sound fine =
-    each_at (IsKnownItem (names_of items)) items (λ k item e. item_known effects keeps spare items sound item (k, e) (at_each IsFineItem items k item fine e))
+    each_at (IsKnownItem (names_of items)) items (λ k item e. item_known effects keeps spare items sound item (k, e) (at_each (IsItemBy IsPrinted) items k item fine e))

@@ -3,12 +3,14 @@ pub mod AgainNames
 pub mod Carried
 pub mod Draft
 pub mod Fine
+pub mod InOrder
 pub mod Known
 pub mod Lines
 pub mod NameSound
 pub mod Names
 pub mod OneModule
 pub mod Placed
+pub mod Ordered
 pub mod Plain
 pub mod Printed
 pub mod Quiet

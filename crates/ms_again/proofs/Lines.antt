@@ -14,7 +14,7 @@ use Rattle.ms_read.specs.Draft.{Say}
 use Rattle.ms_print.specs.Numbering.{shown_name, free_after, shown_params}
 use Rattle.ms_reread.proofs.Places.{whole_tokens, gap_none}
 use Rattle.ms_again.proofs.Renaming.{renamed_term}
-use Rattle.ms_again.proofs.Quiet.{IsQuiet}
+use Rattle.ms_again.proofs.Quiet.{IsQuiet, IsPrinted}
 use Rattle.ms_again.proofs.Fine.{IsFine, IsGood, IsGoodParam, inst_fine, term_fine, label_fine, define_fine, each_join, each_first, each_second}
 use Rattle.ms_again.proofs.Names.{shown, label_name, param_names, inst_free, block_free, results, result_of, all_results, block_names, size_of}
 use Rattle.ms_again.proofs.Again.{renaming, insts_said, first_said, label_said, block_said, blocks_said, start, func_said, gap_said, items_said}
@@ -23,7 +23,7 @@ use Rattle.ms_again.proofs.Sites.{IsFineEntry, IsFineBlock, IsFineFunc}
 use Rattle.ms_again.proofs.Uses.{AreRight, IsRightInst, IsRightLines, good_vals, good_froms}
 
 -- an empty line
-empty_fine : IsFine said.Empty
+pub empty_fine : IsFine said.Empty
 empty_fine = record {
   whole = record {
     says = record {
@@ -145,12 +145,16 @@ row_first (b ∷ bs) rest h =
     ap (λ (c : Bool). if c then [] ∷ rows_of (bs ++ 10 ∷ rest) else in_first b (rows_of (bs ++ 10 ∷ rest))) h.0
     ∙ ap (λ (rows : List (List ℕ)). in_first b rows) (row_first bs rest h.1)
 
-pub rows_are : (ls : List Line) → Each IsFine ls → rows_of (rows_text ls) ≡ map printed ls
+pub rows_are : (ls : List Line) → Each IsPrinted ls → rows_of (rows_text ls) ≡ map printed ls
 rows_are [] h = refl
 rows_are (l ∷ ls) h =
     ap rows_of (append_assoc (printed l) (10 ∷ []) (rows_text ls))
-    ∙ row_first (printed l) (rows_text ls) h.0.whole.quiet
+    ∙ row_first (printed l) (rows_text ls) h.0.quiet
     ∙ ap (λ (rows : List (List ℕ)). printed l ∷ rows) (rows_are ls h.1)
+
+pub all_printed : (ls : List Line) → Each IsFine ls → Each IsPrinted ls
+all_printed [] h = tt
+all_printed (l ∷ ls) h = (h.0.whole, all_printed ls h.1)
 
 pub all_say : (ls : List Line) → Each IsFine ls → Say (map printed ls) ls
 all_say [] h = tt

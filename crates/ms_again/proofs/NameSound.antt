@@ -102,7 +102,7 @@ entries_froms : (r : Renaming) (es : List RawEntry) → map entry_block (map (re
 entries_froms r [] = refl
 entries_froms r (e ∷ es) = ap (λ (ns : List Name). r.block e.from ∷ ns) (entries_froms r es)
 
-inst_values_are : (r : Renaming) (i : RawInst) → values_of (renamed_inst r i) ≡ map (renamed_val r) (values_of i)
+pub inst_values_are : (r : Renaming) (i : RawInst) → values_of (renamed_inst r i) ≡ map (renamed_val r) (values_of i)
 inst_values_are r (Alloca size head rest) = refl
 inst_values_are r (Gep base offset head index rest) = refl
 inst_values_are r (Load ty ptr rest) = refl
@@ -115,7 +115,7 @@ inst_values_are r (Select cond ty a b rest) = refl
 inst_values_are r (Cast op flags from a to rest) = refl
 inst_values_are r (Phi ty entries rest) = entries_values r entries
 
-inst_blocks_are : (r : Renaming) (i : RawInst) → inst_blocks (renamed_inst r i) ≡ map r.block (inst_blocks i)
+pub inst_blocks_are : (r : Renaming) (i : RawInst) → inst_blocks (renamed_inst r i) ≡ map r.block (inst_blocks i)
 inst_blocks_are r (Alloca size head rest) = refl
 inst_blocks_are r (Gep base offset head index rest) = refl
 inst_blocks_are r (Load ty ptr rest) = refl
@@ -141,14 +141,14 @@ callee_is r (Select cond ty a b rest) = refl
 callee_is r (Cast op flags from a to rest) = refl
 callee_is r (Phi ty entries rest) = refl
 
-term_values_are : (r : Renaming) (t : RawTerm) → term_values (renamed_term r t) ≡ map (renamed_val r) (term_values t)
+pub term_values_are : (r : Renaming) (t : RawTerm) → term_values (renamed_term r t) ≡ map (renamed_val r) (term_values t)
 term_values_are r (Br to rest) = refl
 term_values_are r (CondBr cond if_true if_false rest) = refl
 term_values_are r (Ret None rest) = refl
 term_values_are r (Ret (Some given) rest) = refl
 term_values_are r (Unreachable rest) = refl
 
-term_blocks_are : (r : Renaming) (t : RawTerm) → term_blocks (renamed_term r t) ≡ map r.block (term_blocks t)
+pub term_blocks_are : (r : Renaming) (t : RawTerm) → term_blocks (renamed_term r t) ≡ map r.block (term_blocks t)
 term_blocks_are r (Br to rest) = refl
 term_blocks_are r (CondBr cond if_true if_false rest) = refl
 term_blocks_are r (Ret None rest) = refl
@@ -171,10 +171,10 @@ inst_globals r i = ap (λ vs. flat_map global_of vs) (inst_values_are r i) ∙ g
 pub term_globals : (r : Renaming) (t : RawTerm) → flat_map global_of (term_values (renamed_term r t)) ≡ flat_map global_of (term_values t)
 term_globals r t = ap (λ vs. flat_map global_of vs) (term_values_are r t) ∙ globals_are r (term_values t)
 
-abbrev names_as : Renaming → List RawVal → List Name → List (List ℕ) → Names
+abbrev pub names_as : Renaming → List RawVal → List Name → List (List ℕ) → Names
 names_as r vals froms symbols = record { locals = flat_map local_of (map (renamed_val r) vals); blocks = map r.block froms; symbols = symbols }
 
-inst_used : (r : Renaming) (i : RawInst) → inst_names (renamed_inst r i) ≡ names_as r (values_of i) (inst_blocks i) (inst_names i).symbols
+pub inst_used : (r : Renaming) (i : RawInst) → inst_names (renamed_inst r i) ≡ names_as r (values_of i) (inst_blocks i) (inst_names i).symbols
 inst_used r i =
     let P : List RawVal → List Name → List (List ℕ) → Names = λ vs ns ws. record { locals = flat_map local_of vs; blocks = ns; symbols = ws } in
     ap (λ vs. P vs (inst_blocks (renamed_inst r i)) (flat_map global_of (values_of (renamed_inst r i)) ++ callee_of (renamed_inst r i))) (inst_values_are r i)
@@ -182,7 +182,7 @@ inst_used r i =
     ∙ ap (λ ws. P (map (renamed_val r) (values_of i)) (map r.block (inst_blocks i)) (ws ++ callee_of (renamed_inst r i))) (inst_globals r i)
     ∙ ap (λ ws. P (map (renamed_val r) (values_of i)) (map r.block (inst_blocks i)) (flat_map global_of (values_of i) ++ ws)) (callee_is r i)
 
-term_used : (r : Renaming) (t : RawTerm) → term_names (renamed_term r t) ≡ names_as r (term_values t) (term_blocks t) (term_names t).symbols
+pub term_used : (r : Renaming) (t : RawTerm) → term_names (renamed_term r t) ≡ names_as r (term_values t) (term_blocks t) (term_names t).symbols
 term_used r t =
     let P : List RawVal → List Name → List (List ℕ) → Names = λ vs ns ws. record { locals = flat_map local_of vs; blocks = ns; symbols = ws } in
     ap (λ vs. P vs (term_blocks (renamed_term r t)) (flat_map global_of (term_values (renamed_term r t)))) (term_values_are r t)

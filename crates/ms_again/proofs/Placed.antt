@@ -39,7 +39,7 @@ lead_cut at end (x ∷ xs) ys h =
     let cut = lead_cut h.0 end xs ys h.3 in
     record { mid = cut.mid; one = (h.0, h.1, h.2, cut.one); two = cut.two }
 
-lead_few : (at end : Progress) (xs : List Sort) → AreFew at → Lead at xs end → AreFew end
+pub lead_few : (at end : Progress) (xs : List Sort) → AreFew at → Lead at xs end → AreFew end
 lead_few at end [] few h = subst (λ p. AreFew p) h few
 lead_few at end (x ∷ xs) few h = lead_few h.0 end xs h.2 h.3
 
@@ -69,7 +69,7 @@ define_place at next e = by at.place at.functions at.blocks at.insts e
     by Ended f b i e = absurd (cc)
 
 -- the label line of a first block may be left out
-abbrev IsStart : Sort → Type 0
+abbrev pub IsStart : Sort → Type 0
 IsStart sort.Phi = Unit {0}
 IsStart sort.Alloca = Unit {0}
 IsStart sort.Other = Unit {0}
@@ -110,7 +110,7 @@ without_label at end s rest begun start h = by at.place at.functions at.blocks a
         (h.3.0, skip, h.3.2, h.3.3)
 
 -- the sorts of lines
-inst_sort : (r : Renaming) (i : RawInst) → sort_of_inst (renamed_inst r i) ≡ sort_of_inst i
+pub inst_sort : (r : Renaming) (i : RawInst) → sort_of_inst (renamed_inst r i) ≡ sort_of_inst i
 inst_sort r (Alloca size head rest) = refl
 inst_sort r (Gep base offset head index rest) = refl
 inst_sort r (Load ty ptr rest) = refl
@@ -123,7 +123,7 @@ inst_sort r (Select cond ty a b rest) = refl
 inst_sort r (Cast op flags from a to rest) = refl
 inst_sort r (Phi ty entries rest) = refl
 
-inst_starts : (i : RawInst) → IsStart (sort_of_inst i)
+pub inst_starts : (i : RawInst) → IsStart (sort_of_inst i)
 inst_starts (Alloca size head rest) = tt
 inst_starts (Gep base offset head index rest) = tt
 inst_starts (Load ty ptr rest) = tt

@@ -13,13 +13,17 @@ use Rattle.ms_resolve.specs.Module.{module_of}
 use Rattle.ms_valid.specs.Cause.{IsAccepted, HasNone}
 use Rattle.ms_valid.specs.Faults.{HasTypeFault, HasEdgeFault, HasOrderFault}
 use Rattle.ms_again.specs.Same.{plain_module, IsSameModule}
-use Rattle.ms_again.specs.Again.{IsReadAgain}
+use Rattle.ms_again.specs.Again.{IsReadAgain, IsReadInOrder}
+use Rattle.ms_again.specs.Basis.{IsBasis}
+use Rattle.ms_again.specs.Ordered.{IsSameInOrder}
 use Rattle.ms_again.proofs.SameText.{same_text}
+use Rattle.ms_again.proofs.InOrder.{same_text as ordered_text}
+use Rattle.ms_again.proofs.Ordered.{in_order}
 use Rattle.ms_again.proofs.Again.{items_said, items_again, items_shape}
 use Rattle.ms_again.proofs.Printed.{rows_text}
 use Rattle.ms_again.proofs.Sites.{each_flat}
 use Rattle.ms_again.proofs.Known.{IsSound}
-use Rattle.ms_again.proofs.Draft.{IsBasis, AreNamed, module_named, text_is, text_read}
+use Rattle.ms_again.proofs.Draft.{AreNamed, module_named, text_is, text_read}
 use Rattle.ms_again.proofs.SameModule.{module_same, meaning_again}
 use Rattle.ms_again.proofs.OneModule.{only_same}
 use Rattle.ms_again.proofs.NameSound.{names_sound}
@@ -60,8 +64,8 @@ accepted_again draft m a named =
 same_chain : (m n o : ModuleState) → IsSameModule m n → IsSameModule n o → IsSameModule m o
 same_chain m n o one other = record { same = one.same ∙ other.same }
 
-pub read_again : (bytes : List ℕ) (draft : List (ℕ × Line)) (m : ModuleState) → IsDraft bytes draft → IsAccepted draft m → length (module_text m) < 10 ^ 9 → IsReadAgain m
-read_again bytes draft m read a short =
+pub items_again_read : (draft : List (ℕ × Line)) (m : ModuleState) (a : IsAccepted draft m) → IsBasis a.items → length (module_text m) < 10 ^ 9 → IsReadAgain m
+items_again_read draft m a basis short =
     let items = a.items in
     let whole = a.named.whole in
     let effects = whole.meaning.effects in
@@ -69,7 +73,6 @@ read_again bytes draft m read a short =
     let own = module_of effects keeps whole.spare items in
     let again = module_of effects keeps whole.spare (items_again 1 None items) in
     let is : m ≡ own = whole.module_is in
-    let basis = basis_of bytes draft items read a.named.shape in
     let sound : IsSound effects keeps whole.spare items = record { names = a.named.sound; types = subst (λ (n : ModuleState). HasNone (HasTypeFault items n)) is a.types } in
     let text : module_text m ≡ rows_text (items_said None items) = ap module_text is ∙ text_is effects keeps whole.spare items sound basis in
     let named = module_named effects keeps whole.spare items sound basis (subst (λ (t : List ℕ). length t < 10 ^ 9) text short) in
@@ -85,4 +88,23 @@ read_again bytes draft m read a short =
       same = same;
       text = sym (same_text m again same);
       only = λ d n there accepted_there. same_chain m again n same (only_same (module_text m) new d again n new_read accepted there accepted_there);
+    }
+
+pub read_again : (bytes : List ℕ) (draft : List (ℕ × Line)) (m : ModuleState) → IsDraft bytes draft → IsAccepted draft m → length (module_text m) < 10 ^ 9 → IsReadAgain m
+read_again bytes draft m read a short = items_again_read draft m a (basis_of bytes draft a.items read a.named.shape) short
+
+-- a module that is the same in order
+pub read_in_order : (m n : ModuleState) → IsSameInOrder m n → IsReadAgain n → IsReadInOrder m
+read_in_order m n one again =
+    let text : module_text m ≡ module_text n = ordered_text m n one in
+    record {
+      draft = again.draft;
+      other = again.other;
+      read = subst (λ (t : List ℕ). IsDraft t again.draft) (sym text) again.read;
+      accepted = again.accepted;
+      same = record { same = one.same ∙ (in_order n again.other again.same).same };
+      text = again.text ∙ sym text;
+      only = λ d o there accepted.
+          let same = in_order n o (again.only d o (subst (λ (t : List ℕ). IsDraft t d) text there) accepted) in
+          record { same = one.same ∙ same.same };
     }

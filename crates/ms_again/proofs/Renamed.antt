@@ -173,10 +173,10 @@ named_fresh n (name.Word text) h = fresh_next (unblank (blank_next (token_back {
 named_fresh n (name.Number k) h = fresh_next (unblank (blank_next (token_back {was = []} (local_whole (name.Number k) h))))
 named_fresh n name.Absent h = nothing
 
-param_back : (p : Param) (m : Name) → MayBeNamed m → Back false (param_parts p) (param_parts (record p { name = m }))
+pub param_back : (p : Param) (m : Name) → MayBeNamed m → Back false (param_parts p) (param_parts (record p { name = m }))
 param_back p m h = token_then (type_whole p.ty) (next_behind (attributes_next p.text) (named_fresh p.name m h))
 
-each_dots : (variadic : Bool) → EachBack (dots_parts variadic) (dots_parts variadic)
+pub each_dots : (variadic : Bool) → EachBack (dots_parts variadic) (dots_parts variadic)
 each_dots true = (token_back (word_whole word.Dots), tt)
 each_dots false = tt
 
@@ -185,7 +185,7 @@ each_param : (next : ℕ) (ps : List Param) (variadic : Bool) → Each IsParam (
 each_param next [] variadic h = each_dots variadic
 each_param next (p ∷ ps) variadic h = (param_back p (shown_name next p.name) h.0, each_param (free_after next p.name) ps variadic h.1)
 
-head_back : (w : Keyword) (h : Head) (was ps : List (List Part)) → FitsHead h → EachBack was ps →
+pub head_back : (w : Keyword) (h : Head) (was ps : List (List Part)) → FitsHead h → EachBack was ps →
     Back false (front_parts w h ++ listed was ++ word_part word.Close ∷ apart post h.post ∷ []) (front_parts w h ++ listed ps ++ word_part word.Close ∷ apart post h.post ∷ [])
 head_back w h was ps fits each =
     token_then (word_whole w)
@@ -194,7 +194,7 @@ head_back w h was ps fits each =
     (blank_next (token_then (global_whole h.name fits.0)
     (mark_next open_calm (behind (listed_back was ps each) (mark_next close_calm (post_next h.post).back))))))))
 
-brace_next : Next false brace_parts brace_parts
+pub brace_next : Next false brace_parts brace_parts
 brace_next = blank_next (token_back (word_whole word.OpenBrace))
 
 -- whole lines

@@ -136,7 +136,7 @@ names_in ms = map name_of_made ms
 pub numbered_is : (next : ℕ) → next < 10 ^ 9 → numbered next ≡ Number next
 numbered_is next h = let t : nat_lt next (2 ^ 32) ≡ true = grind (arith, nat_tests) in rw t refl
 
-good_number : (next : ℕ) → next < 10 ^ 9 → IsGood (numbered next)
+pub good_number : (next : ℕ) → next < 10 ^ 9 → IsGood (numbered next)
 good_number next h =
     subst (λ n. IsGood n) (sym (numbered_is next h)) (h, (let short = length-decimal-le 9 next (omega arith) h (omega arith) in omega arith))
 
@@ -162,7 +162,7 @@ number_high next (Word text) k h e = absurd (cc)
 number_high next (Number j) k h e = let same : Number next ≡ Number k = sym (numbered_is next h) ∙ e in cc
 number_high next Absent k h e = let same : Number next ≡ Number k = sym (numbered_is next h) ∙ e in cc
 
-numbers_high : (next : ℕ) (ms : List Made) (k : ℕ) → next + length ms ≤ 10 ^ 9 → Among (names_in (named_by shown next ms)) (Number k) → next ≤ k
+pub numbers_high : (next : ℕ) (ms : List Made) (k : ℕ) → next + length ms ≤ 10 ^ 9 → Among (names_in (named_by shown next ms)) (Number k) → next ≤ k
 numbers_high next [] k h on = absurd on
 numbers_high next (m ∷ ms) k h on =
     let more = shown_next next m.name in
@@ -191,7 +191,7 @@ words_kept next free (m ∷ ms) w h on =
       | inr later ↦ inr (words_kept (free_after next m.name) (free_behind free m.name) ms w (omega arith) later)
     ]
 
-number_new : (next : ℕ) (ms : List Made) → next + 1 + length ms ≤ 10 ^ 9 → Among (names_in (named_by shown (next + 1) ms)) (numbered next) → ⊥
+pub number_new : (next : ℕ) (ms : List Made) → next + 1 + length ms ≤ 10 ^ 9 → Among (names_in (named_by shown (next + 1) ms)) (numbered next) → ⊥
 number_new next ms h on =
     let same : numbered next ≡ Number next = numbered_is next (omega arith) in
     let high = numbers_high (next + 1) ms next h (subst (λ n. Among (names_in (named_by shown (next + 1) ms)) n) same on) in

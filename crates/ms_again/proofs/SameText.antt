@@ -98,7 +98,7 @@ unfolding line_text
 insts_plain s notes [] = refl
 insts_plain s notes (x ∷ xs) = ap (λ t. note_at notes x.number ++ ended (printed (inst_line s x)) ++ t) (insts_plain s notes xs)
 
-label_plain : (labels : List Name) (b : ℕ) (n : Name) → label_text labels b (own_name n) ≡ label_text labels b n
+pub label_plain : (labels : List Name) (b : ℕ) (n : Name) → label_text labels b (own_name n) ≡ label_text labels b n
 unfolding line_text
 label_plain labels b (Word text) = refl
 label_plain labels b (Number n) = refl

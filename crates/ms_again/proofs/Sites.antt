@@ -59,48 +59,61 @@ pub each_flat : {X Y : Type 0} (P : Y → Type 0) (g : X → List Y) (xs : List 
 each_flat P g [] h = tt
 each_flat P g (x ∷ xs) h = (each_first P (g x) (flat_map g xs) h, each_flat P g xs (each_second P (g x) (flat_map g xs) h))
 
--- lines that are fine
-abbrev pub IsFineEntry : ℕ × Line → Type 0
-IsFineEntry e = IsFine e.1
+-- lines of which each has a property
+abbrev pub IsEntryBy : (Line → Type 0) → ℕ × Line → Type 0
+IsEntryBy P e = P e.1
 
-pub record IsFineBlock (b : BlockLines) : Type 0 where
-  pub labels : Each IsFineEntry (label_lines b.label)
-  pub insts : Each (λ (x : InstLine). IsFine (said.Inst x.name x.inst)) b.insts
-  pub term : IsFine (said.Term b.end.term)
+pub record IsBlockBy (P : Line → Type 0) (b : BlockLines) : Type 0 where
+  pub labels : Each (IsEntryBy P) (label_lines b.label)
+  pub insts : Each (λ (x : InstLine). P (said.Inst x.name x.inst)) b.insts
+  pub term : P (said.Term b.end.term)
 
-pub record IsFineFunc (f : FuncLines) : Type 0 where
-  pub define : IsFine (said.Define f.head)
-  pub blocks : Each IsFineBlock f.blocks
-  pub close : IsFine said.Close
+pub record IsFuncBy (P : Line → Type 0) (f : FuncLines) : Type 0 where
+  pub define : P (said.Define f.head)
+  pub blocks : Each (IsBlockBy P) f.blocks
+  pub close : P said.Close
 
-fine_insts : (xs : List InstLine) → Each IsFineEntry (map inst_line xs) → Each (λ (x : InstLine). IsFine (said.Inst x.name x.inst)) xs
-fine_insts [] h = tt
-fine_insts (x ∷ xs) h = (h.0, fine_insts xs h.1)
+insts_by : (P : Line → Type 0) (xs : List InstLine) → Each (IsEntryBy P) (map inst_line xs) → Each (λ (x : InstLine). P (said.Inst x.name x.inst)) xs
+insts_by P [] h = tt
+insts_by P (x ∷ xs) h = (h.0, insts_by P xs h.1)
 
-fine_block : (b : BlockLines) → Each IsFineEntry (block_lines b) → IsFineBlock b
-fine_block b h =
+block_by : (P : Line → Type 0) (b : BlockLines) → Each (IsEntryBy P) (block_lines b) → IsBlockBy P b
+block_by P b h =
     let end : List (ℕ × Line) = (b.end.line, said.Term b.end.term) ∷ [] in
-    let front = each_first IsFineEntry (label_lines b.label ++ map inst_line b.insts) end h in
-    let last = each_second IsFineEntry (label_lines b.label ++ map inst_line b.insts) end h in
+    let front = each_first (IsEntryBy P) (label_lines b.label ++ map inst_line b.insts) end h in
+    let last = each_second (IsEntryBy P) (label_lines b.label ++ map inst_line b.insts) end h in
     record {
-      labels = each_first IsFineEntry (label_lines b.label) (map inst_line b.insts) front;
-      insts = fine_insts b.insts (each_second IsFineEntry (label_lines b.label) (map inst_line b.insts) front);
+      labels = each_first (IsEntryBy P) (label_lines b.label) (map inst_line b.insts) front;
+      insts = insts_by P b.insts (each_second (IsEntryBy P) (label_lines b.label) (map inst_line b.insts) front);
       term = last.0;
     }
 
-fine_blocks : (bs : List BlockLines) → Each (λ b. Each IsFineEntry (block_lines b)) bs → Each IsFineBlock bs
-fine_blocks [] h = tt
-fine_blocks (b ∷ bs) h = (fine_block b h.0, fine_blocks bs h.1)
+blocks_by : (P : Line → Type 0) (bs : List BlockLines) → Each (λ b. Each (IsEntryBy P) (block_lines b)) bs → Each (IsBlockBy P) bs
+blocks_by P [] h = tt
+blocks_by P (b ∷ bs) h = (block_by P b h.0, blocks_by P bs h.1)
 
-pub fine_func : (f : FuncLines) → Each IsFineEntry (func_lines f) → IsFineFunc f
-fine_func f h =
+pub func_by : (P : Line → Type 0) (f : FuncLines) → Each (IsEntryBy P) (func_lines f) → IsFuncBy P f
+func_by P f h =
     let close : List (ℕ × Line) = (f.close, said.Close) ∷ [] in
-    let last = each_second IsFineEntry (flat_map block_lines f.blocks) close h.1 in
+    let last = each_second (IsEntryBy P) (flat_map block_lines f.blocks) close h.1 in
     record {
       define = h.0;
-      blocks = fine_blocks f.blocks (each_flat IsFineEntry block_lines f.blocks (each_first IsFineEntry (flat_map block_lines f.blocks) close h.1));
+      blocks = blocks_by P f.blocks (each_flat (IsEntryBy P) block_lines f.blocks (each_first (IsEntryBy P) (flat_map block_lines f.blocks) close h.1));
       close = last.0;
     }
+
+-- lines that are fine
+abbrev pub IsFineEntry : ℕ × Line → Type 0
+IsFineEntry = IsEntryBy IsFine
+
+abbrev pub IsFineBlock : BlockLines → Type 0
+IsFineBlock = IsBlockBy IsFine
+
+abbrev pub IsFineFunc : FuncLines → Type 0
+IsFineFunc = IsFuncBy IsFine
+
+pub fine_func : (f : FuncLines) → Each IsFineEntry (func_lines f) → IsFineFunc f
+fine_func f h = func_by IsFine f h
 
 -- the names that fine lines have
 abbrev pub IsNamedVal : RawVal → Type 0

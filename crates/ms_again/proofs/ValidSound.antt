@@ -104,7 +104,7 @@ term_old row f F G alike n b new x h =
 in_same : {X : Type 0} (xs ys : List X) (x : X) → xs ≡ ys → IsIn xs x → IsIn ys x
 in_same {X} xs ys x e h = let P : List X → Type 0 = λ l. IsIn l x in subst P e h
 
-calls_same : (m n : ModuleState) (i : Inst) → m.sigs ≡ n.sigs → CallsOtherwise m i → CallsOtherwise n i
+pub calls_same : (m n : ModuleState) (i : Inst) → m.sigs ≡ n.sigs → CallsOtherwise m i → CallsOtherwise n i
 calls_same m n (Call callee ret args effects head tail) e h = (h.0, ap (λ (ss : List Sig). slice_get ss callee.0) (sym e) ∙ h.1, h.2)
 calls_same m n (Alloca size head rest) e h = absurd h
 calls_same m n (Gep base offset head index rest) e h = absurd h

@@ -1,2 +1,4 @@
 pub mod Again
+pub mod Basis
+pub mod Ordered
 pub mod Same

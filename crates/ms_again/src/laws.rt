@@ -6,7 +6,9 @@ ghost use Rattle.ms_print.specs.Text.{module_text};
 ghost use Rattle.ms_read.specs.Draft.{IsDraft};
 ghost use Rattle.ms_resolve.specs.Build.{bare_module};
 ghost use Rattle.ms_valid.specs.Cause.{IsAccepted};
-ghost use Rattle.ms_again.specs.Again.{IsReadAgain};
+ghost use Rattle.ms_again.specs.Again.{IsReadAgain, IsReadInOrder};
+ghost use Rattle.ms_again.specs.Basis.{IsBasis};
+ghost use Rattle.ms_again.specs.Ordered.{IsSameInOrder};
 ghost use Rattle.ms_again.specs.Same.{IsSameModule};
 
 /// An accepted module that is printed is read and accepted as the same module, and as no other; and that module prints
@@ -17,10 +19,30 @@ pub fn read_again()
         → IsDraft bytes draft → IsAccepted draft m → length (module_text m) < 10 ^ 9 → IsReadAgain m }
 {}
 
+/// So is one whose items rows say, whatever text they come from, if any.
+pub fn read_items()
+    ensures { (draft : List (ℕ × Line)) (m : ModuleState) (a : IsAccepted draft m) → IsBasis a.items → length (module_text m) < 10 ^ 9 → IsReadAgain m }
+{}
+
+/// So is one that is the same in order, though its instructions and locals are numbered otherwise.
+pub fn read_in_order()
+    ensures { (m n : ModuleState) → IsSameInOrder m n → IsReadAgain n → IsReadInOrder m }
+{}
+
 /// The same module prints the same text: the numbers that are written for things without a name, and the room that
 /// functions have, are not seen in it.
 pub fn same_text()
     ensures { (m n : ModuleState) → IsSameModule m n → module_text m ≡ module_text n }
+{}
+
+/// So does a module whose numbers of instructions and locals stand in another order, or have gaps.
+pub fn same_order()
+    ensures { (m n : ModuleState) → IsSameInOrder m n → module_text m ≡ module_text n }
+{}
+
+/// What is the same but for written numbers and room is the same in order.
+pub fn in_order()
+    ensures { (m n : ModuleState) → IsSameModule m n → IsSameInOrder m n }
 {}
 
 /// A draft is accepted as one module, but for the room that its functions have.

@@ -1,0 +1,11 @@
+pub mod Built
+pub mod Faults
+pub mod Func
+pub mod Limits
+pub mod Lines
+pub mod Names
+pub mod Own
+pub mod Parts
+pub mod Said
+pub mod Sound
+pub mod Valid
