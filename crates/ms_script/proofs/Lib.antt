@@ -1,2 +1,4 @@
 pub mod Fronts
+pub mod Insertion
+pub mod PastLines
 pub mod Types

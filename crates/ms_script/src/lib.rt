@@ -6,6 +6,8 @@ mod cut;
 mod edit;
 mod fault;
 mod front;
+mod inserted;
+mod past;
 mod rows;
 mod verb;
 
