@@ -1,0 +1,6 @@
+pub mod Fronts
+pub mod Insertion
+pub mod LineLemmas
+pub mod PastLines
+pub mod ScriptRead
+pub mod Types

@@ -1,0 +1,7 @@
+pub mod Calls
+pub mod Ends
+pub mod Found
+pub mod Lines
+pub mod Next
+pub mod Script
+pub mod Verbs

@@ -1,0 +1,29 @@
+//! Edit scripts: lines of edits by names, read from bytes.
+//!
+//! ```text
+//! ; one edit a line; empty lines and comments are counted too
+//! insert @f %entry 0: %x = load i32, ptr %p, align 4
+//! remove @f %entry 2
+//! move @f %a 0 to %b 1
+//! unlink @f %b 0
+//! ```
+//!
+//! [`read_script`] answers the steps of a script's lines, or the first line that fails and why. The instruction of an insert is one of
+//! a module's lines, by the same grammar.
+#![tactic(auto)]
+
+mod call;
+mod cut;
+mod edit;
+mod fault;
+mod front;
+mod inserted;
+mod line;
+mod past;
+mod read;
+mod rows;
+mod verb;
+
+pub use edit::{RawEdit, Script, Step};
+pub use fault::ScriptFault;
+pub use read::read_script;
