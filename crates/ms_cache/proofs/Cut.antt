@@ -45,7 +45,7 @@ stepped_cond false false m n o p e h k = k
 stepped_cond true false m n o p e h k = cc
 stepped_cond false true m n o p e h k = cc
 
-makes_without : (from : ℕ) (p : Inst) → makes_pointer p ≡ makes_pointer (inst_without from p)
+pub makes_without : (from : ℕ) (p : Inst) → makes_pointer p ≡ makes_pointer (inst_without from p)
 makes_without from (Phi ty entries tail) = refl
 makes_without from p = refl
 
@@ -64,10 +64,10 @@ stepped_set k [] b new l h = refl
 stepped_set k (x ∷ xs) zero new l h = stepped_or (maker_in k x.insts l) (maker_in k new.insts l) (maker_from (suc k) xs l) (maker_from (suc k) xs l) (h k) refl
 stepped_set k (x ∷ xs) (suc b) new l h = stepped_or (maker_in k x.insts l) (maker_in k x.insts l) (maker_from (suc k) xs l) (maker_from (suc k) (set xs b new) l) refl (stepped_set (suc k) xs b new l h)
 
-abbrev branched : FuncState → ℕ → ℕ → List Block
+abbrev pub branched : FuncState → ℕ → ℕ → List Block
 branched f b slot = with_term f.blocks b (Br (kept_target (get_or f.blocks b no_block).term slot) [])
 
-abbrev cut_block : FuncState → ℕ → ℕ → ℕ
+abbrev pub cut_block : FuncState → ℕ → ℕ → ℕ
 cut_block f b slot = (cut_target (get_or f.blocks b no_block).term slot).0
 
 stepped_cut : (f : FuncState) (b slot : ℕ) (l : LocalNo) → stepped (maker_of f l) ≡ stepped (maker_of (with_edge_cut f b slot) l)
@@ -101,7 +101,7 @@ term_to blocks b term y h =
     (λ (r : Has (with_term blocks b term) y). r)
     (set_to blocks b (record (get_or blocks b no_block) { term = term }) ⊥ h.0 h.1 y h.2 (λ j e. inr (j, e)))
 
-term_from : (blocks : List Block) (b : ℕ) (term : Term) (y : Placed) → Has (with_term blocks b term) y → Has blocks y
+pub term_from : (blocks : List Block) (b : ℕ) (term : Term) (y : Placed) → Has (with_term blocks b term) y → Has blocks y
 term_from blocks b term y h =
     ⊎_elim
     (λ (l : (j : ℕ) × (slice_get (insts_at blocks b) j ≡ Some y)). (b, l.0, l.1))
@@ -114,7 +114,7 @@ entry_to blocks c from x h =
     set_to blocks c new (Has (with_entry_lost blocks c from) (placed_without from x)) h.0 h.1 x h.2
     (λ j e. inl (set_here blocks c new j (placed_without from x) (within blocks c j x e) (slice_map (placed_without from) (insts_at blocks c) j x e)))
 
-entry_from : (blocks : List Block) (c from : ℕ) (y : Placed) → Has (with_entry_lost blocks c from) y → ((x : Placed) × Has blocks x × (placed_without from x ≡ y)) ⊎ Has blocks y
+pub entry_from : (blocks : List Block) (c from : ℕ) (y : Placed) → Has (with_entry_lost blocks c from) y → ((x : Placed) × Has blocks x × (placed_without from x ≡ y)) ⊎ Has blocks y
 entry_from blocks c from y h =
     ⊎_elim
     (λ (l : (j : ℕ) × (slice_get (map (placed_without from) (insts_at blocks c)) j ≡ Some y)).

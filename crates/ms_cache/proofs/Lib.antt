@@ -11,3 +11,4 @@ pub mod Replaced
 pub mod Taken
 pub mod Cut
 pub mod Told
+pub mod Fewer

@@ -1,20 +1,21 @@
 // Laws of kept answers and of kept tables, the contracts of a function that does nothing.
-ghost use Rattle.std.specs.Prelude.{◌≡◌, ◌≢◌, ◌↔◌, ◌<◌, ℕ, ℤ, true, false, length, List, [], Contains};
+ghost use Rattle.std.specs.Prelude.{◌≡◌, ◌≢◌, ◌↔◌, ◌<◌, ℕ, ℤ, true, false, length, List, [], Contains, slice_index_or};
 ghost use Rattle.ms_ir.specs.declared.names.InstNo.{InstNo};
 ghost use Rattle.ms_ir.specs.declared.names.LocalNo.{LocalNo};
 ghost use Rattle.ms_ir.specs.declared.inst.Arg.{Arg};
 ghost use Rattle.ms_ir.specs.declared.inst.Val.{Val};
 ghost use Rattle.ms_ir.specs.declared.inst.Inst.{Inst};
-ghost use Rattle.ms_ir.specs.Func.{Placed, FuncState, IsAt, IsSomewhere, IsShifted, IsTaken};
-ghost use Rattle.ms_ir.specs.Changes.{with_source, with_replaced, with_edge_cut};
+ghost use Rattle.ms_ir.specs.Func.{Placed, FuncState, no_block, IsAt, IsSomewhere, IsShifted, IsTaken};
+ghost use Rattle.ms_ir.specs.Changes.{IsCondBr, with_source, with_replaced, with_edge_cut};
 ghost use Rattle.ms_ir.specs.Edits.{is_movable};
 ghost use Rattle.ms_ir.specs.Locals.{IsNumbered};
 ghost use Rattle.ms_ir.specs.SoundFunc.{IsSoundFunc};
 ghost use Rattle.ms_alias.specs.declared.loc.Root.{Root};
 ghost use Rattle.ms_alias.specs.declared.loc.Loc.{Loc};
 ghost use Rattle.ms_alias.specs.declared.loc.Loc.TheVariants.{ReadBy};
-ghost use Rattle.ms_alias.specs.Roots.{makes_pointer, HasRoot};
-ghost use Rattle.ms_alias.specs.Captured.{args_of};
+ghost use Rattle.ms_alias.specs.Roots.{makes_pointer, HasRoot, IsTurning};
+ghost use Rattle.ms_alias.specs.Bases.{Base, HasBase};
+ghost use Rattle.ms_alias.specs.Captured.{IsCaptured, args_of};
 ghost use Rattle.ms_alias.specs.Reaches.{ReadsLoc, WritesLoc};
 ghost use Rattle.ms_alias.specs.Tables.{AliasState, IsAliasOf, IsReady};
 ghost use Rattle.ms_alias.specs.Tests.{may_write_by, may_read_by, may_write_in_turn_by};
@@ -97,11 +98,16 @@ pub fn load_gone()
     ensures locations { (f g : FuncState) (n : ℕ) (by : Val) → IsNumbered f → IsSoundFunc f → IsLoadGone f g n by → (i : InstNo) → i.0 ≢ n → SameLocs f g i }
 {}
 
-/// Where an edge was cut the tables are ready to be renewed; each pointer has the same root and offset, and each instruction has the same locations.
+/// Where an edge was cut the tables are ready to be renewed; each pointer has the same root and offset, and each instruction has the same locations; and no
+/// pointer has another base, no other alloca is captured, and no other root turns.
 pub fn cut_kept()
     ensures ready { (f : FuncState) (a : AliasState) (b slot : ℕ) → IsAliasOf f a → IsReady (with_edge_cut f b slot) a }
     ensures roots { (f : FuncState) (b slot : ℕ) (p r : Root) (offset : ℤ) → HasRoot f p r offset ↔ HasRoot (with_edge_cut f b slot) p r offset }
     ensures locations { (f : FuncState) (b slot : ℕ) (i : InstNo) → SameLocs f (with_edge_cut f b slot) i }
+    ensures bases { (f : FuncState) (b slot : ℕ) (p : Root) (c : Base) → HasBase (with_edge_cut f b slot) p c → HasBase f p c }
+    ensures captured { (f : FuncState) (b slot : ℕ) (l : LocalNo) → IsCaptured (with_edge_cut f b slot) l → IsCaptured f l }
+    ensures turning { (f : FuncState) (b slot : ℕ) → IsCondBr (slice_index_or f.blocks b no_block).term → (r : Root)
+        → IsTurning (with_edge_cut f b slot) r → IsTurning f r }
 {}
 
 /// An instruction that may be moved makes no pointer, and one instruction alone has a number.
