@@ -1,6 +1,7 @@
 pub mod Built
 pub mod Faults
 pub mod Func
+pub mod Items
 pub mod Limits
 pub mod Lines
 pub mod Names

@@ -1,3 +1,4 @@
+use Rattle.ms_reprint.proofs.Items as checked_items
 use Rattle.ms_reprint.proofs.Func as checked_func
 use Rattle.ms_reprint.proofs.Own as checked_own
 use Rattle.ms_reprint.proofs.Valid as checked_valid
