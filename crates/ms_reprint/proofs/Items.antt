@@ -59,12 +59,12 @@ items_of m f g (item.Defined number ∷ xs) groups h = body (func_lines m h.1.fu
 
 -- ---- lists from a place on
 
-drop_next : {X : Type 0} (xs : List X) (k : ℕ) (x : X) → slice_get xs k ≡ Some x → drop k xs ≡ x ∷ drop (suc k) xs
+pub drop_next : {X : Type 0} (xs : List X) (k : ℕ) (x : X) → slice_get xs k ≡ Some x → drop k xs ≡ x ∷ drop (suc k) xs
 drop_next [] k x e = absurd (cc)
 drop_next (y ∷ xs) zero x e = let same : y ≡ x = cc in ap (λ z. z ∷ xs) same
 drop_next (y ∷ xs) (suc k) x e = drop_next xs k x e
 
-drop_none : {X : Type 0} (xs : List X) (k : ℕ) → length xs ≡ k → drop k xs ≡ []
+pub drop_none : {X : Type 0} (xs : List X) (k : ℕ) → length xs ≡ k → drop k xs ≡ []
 drop_none [] zero e = refl
 drop_none [] (suc k) e = absurd (omega arith)
 drop_none (x ∷ xs) zero e = absurd (omega arith)

@@ -9,4 +9,6 @@ pub mod Own
 pub mod Parts
 pub mod Said
 pub mod Sound
+pub mod Twice
 pub mod Valid
+pub mod Whole

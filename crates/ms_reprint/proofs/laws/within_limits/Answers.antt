@@ -1,3 +1,5 @@
+use Rattle.ms_reprint.proofs.Whole as checked_whole
+use Rattle.ms_reprint.proofs.Twice as checked_twice
 use Rattle.ms_reprint.proofs.Items as checked_items
 use Rattle.ms_reprint.proofs.Func as checked_func
 use Rattle.ms_reprint.proofs.Own as checked_own
