@@ -7,6 +7,7 @@ pub mod Lines
 pub mod Names
 pub mod Own
 pub mod Parts
+pub mod Reprint
 pub mod Said
 pub mod Sound
 pub mod Twice

@@ -278,7 +278,7 @@ others m distinct n a b =
     let less = slice_get_within m.names.funcs a.0 n a.1 in
     omega arith
 
-record OfBody (m : ModuleState) (lines : FuncLines) (g : FuncState) : Type 0 where
+pub record OfBody (m : ModuleState) (lines : FuncLines) (g : FuncState) : Type 0 where
   pub func : FuncState
   pub lined : Lined m func
   pub is : lines ≡ func_lines m func lined
@@ -287,7 +287,7 @@ record OfBody (m : ModuleState) (lines : FuncLines) (g : FuncState) : Type 0 whe
 same_state : (a b : FuncState) → Some a ≡ Some b → a ≡ b
 same_state a b e = cc
 
-of_body : (m : ModuleState) (h : AreLined m 0 0 m.items m.groups) (lines : FuncLines) (g : FuncState) → IsBody (all_items m h) (module_by m h) lines g → OfBody m lines g
+pub of_body : (m : ModuleState) (h : AreLined m 0 0 m.items m.groups) (lines : FuncLines) (g : FuncState) → IsBody (all_items m h) (module_by m h) lines g → OfBody m lines g
 of_body m h lines g b =
     let all = all_items m h in
     let on = func_in all b.place lines b.lines_are in

@@ -1,3 +1,4 @@
+use Rattle.ms_reprint.proofs.Reprint as checked_reprint
 use Rattle.ms_reprint.proofs.Whole as checked_whole
 use Rattle.ms_reprint.proofs.Twice as checked_twice
 use Rattle.ms_reprint.proofs.Items as checked_items
