@@ -3,6 +3,7 @@ use Rattle.std.proofs.Common.{◌≡◌, ◌≤◌, ◌<◌, ◌+◌, ◌^◌, �
 use Rattle.std.specs.Prelude.{slice_get}
 use Rattle.std.specs.List.{flat_map}
 use Rattle.std.proofs.lemmas.List.{map-append}
+use Rattle.ms_attrs.specs.Effects.{IsEffectsOf}
 use Rattle.ms_attrs.proofs.MeaningLemmas.{some_effects, some_keeps}
 use Rattle.ms_ir.specs.declared.module.Item.{Item}
 use Rattle.ms_ir.specs.declared.module.Item.TheVariants as item
@@ -58,12 +59,13 @@ use Rattle.ms_again.proofs.Lines.{empty_fine, rows_are}
 use Rattle.ms_again.proofs.Placed.{blank_stays, inst_starts, IsStart}
 use Rattle.ms_again.proofs.Printed.{rows_text}
 use Rattle.ms_again.proofs.Quiet.{IsPrinted, kept_printed}
+use Rattle.ms_again.proofs.ReadAgain.{items_again_read, read_in_order}
 use Rattle.ms_again.proofs.Sites.{IsEntryBy, IsBlockBy, IsFuncBy, each_at, each_flat, built, bodies_built}
 use Rattle.ms_edited.proofs.Shape.{PartIsReducible}
 use Rattle.ms_reprint.specs.Rows.{AreSaid}
 use Rattle.ms_reprint.proofs.Limits.{AreWithin, are_within}
 use Rattle.ms_reprint.proofs.Lines.{insts_many, size_of, has_blocks}
-use Rattle.ms_reprint.proofs.Names.{are_given}
+use Rattle.ms_reprint.proofs.Names.{target_of, are_given}
 use Rattle.ms_reprint.proofs.Sound.{in_order}
 use Rattle.ms_reprint.proofs.Faults.{Lined, func_lines, lined}
 use Rattle.ms_reprint.proofs.Own.{own_inst, own_label, own_block, own_blocks, own_func, own_is}
@@ -328,3 +330,152 @@ lines_tight m f g before (item.Defined number ∷ xs) groups k =
     ∙ ap (λ (ls : List Line). ls ++ tight rest) (ap tight (own_is m k.1.func k.1.lined) ∙ tight_func F)
     ∙ ap (λ (ls : List Line). map line_at (lines_in F) ++ ls) (lines_tight m (suc f) g (Some true) xs groups k.2)
     ∙ sym (map-append line_at (lines_in F) (flat_map item_lines items))
+
+-- ---- what holds of printed lines holds of the items' lines
+
+each_tight : (P : Line → Type 0) (ls : List Line) → Each P ls → Each P (tight ls)
+each_tight P [] h = tt
+each_tight P (said.Empty ∷ ls) h = each_tight P ls h.1
+each_tight P (said.Close ∷ ls) h = (h.0, each_tight P ls h.1)
+each_tight P (said.Kept t ∷ ls) h = (h.0, each_tight P ls h.1)
+each_tight P (said.Group n t ∷ ls) h = (h.0, each_tight P ls h.1)
+each_tight P (said.GlobalVar n t ∷ ls) h = (h.0, each_tight P ls h.1)
+each_tight P (said.Label n ∷ ls) h = (h.0, each_tight P ls h.1)
+each_tight P (said.Declare d ∷ ls) h = (h.0, each_tight P ls h.1)
+each_tight P (said.Define d ∷ ls) h = (h.0, each_tight P ls h.1)
+each_tight P (said.Inst n i ∷ ls) h = (h.0, each_tight P ls h.1)
+each_tight P (said.Term t ∷ ls) h = (h.0, each_tight P ls h.1)
+
+start_some : (s : Sort) → IsStart s → is_blank s ≡ false
+start_some sort.Phi h = refl
+start_some sort.Alloca h = refl
+start_some sort.Other h = refl
+start_some sort.Term h = refl
+start_some sort.Blank h = absurd h
+start_some sort.Item h = absurd h
+start_some sort.Define h = absurd h
+start_some sort.Close h = absurd h
+start_some sort.Label h = absurd h
+
+abbrev IsSome : Line → Type 0
+IsSome l = is_blank (sort_of l) ≡ false
+
+tight_some : (ls : List Line) → Each IsSome (tight ls)
+tight_some [] = tt
+tight_some (said.Empty ∷ ls) = tight_some ls
+tight_some (said.Close ∷ ls) = (refl, tight_some ls)
+tight_some (said.Kept t ∷ ls) = (refl, tight_some ls)
+tight_some (said.Group n t ∷ ls) = (refl, tight_some ls)
+tight_some (said.GlobalVar n t ∷ ls) = (refl, tight_some ls)
+tight_some (said.Label n ∷ ls) = (refl, tight_some ls)
+tight_some (said.Declare d ∷ ls) = (refl, tight_some ls)
+tight_some (said.Define d ∷ ls) = (refl, tight_some ls)
+tight_some (said.Inst n i ∷ ls) = (start_some (sort_of (said.Inst n i)) (inst_starts i), tight_some ls)
+tight_some (said.Term t ∷ ls) = (refl, tight_some ls)
+
+some_next : (a b : Progress) → Some a ≡ Some b → a ≡ b
+some_next a b e = cc
+
+lead_tight : (at end : Progress) (ls : List Line) → Lead at (map sort_of ls) end → Lead at (map sort_of (tight ls)) end
+lead_tight at end [] h = h
+lead_tight at end (said.Empty ∷ ls) h =
+    let same : at ≡ h.0 = some_next at h.0 (sym (blank_stays at) ∙ h.1) in
+    subst (λ p. Lead p (map sort_of (tight ls)) end) (sym same) (lead_tight h.0 end ls h.3)
+lead_tight at end (said.Close ∷ ls) h = (h.0, h.1, h.2, lead_tight h.0 end ls h.3)
+lead_tight at end (said.Kept t ∷ ls) h = (h.0, h.1, h.2, lead_tight h.0 end ls h.3)
+lead_tight at end (said.Group n t ∷ ls) h = (h.0, h.1, h.2, lead_tight h.0 end ls h.3)
+lead_tight at end (said.GlobalVar n t ∷ ls) h = (h.0, h.1, h.2, lead_tight h.0 end ls h.3)
+lead_tight at end (said.Label n ∷ ls) h = (h.0, h.1, h.2, lead_tight h.0 end ls h.3)
+lead_tight at end (said.Declare d ∷ ls) h = (h.0, h.1, h.2, lead_tight h.0 end ls h.3)
+lead_tight at end (said.Define d ∷ ls) h = (h.0, h.1, h.2, lead_tight h.0 end ls h.3)
+lead_tight at end (said.Inst n i ∷ ls) h = (h.0, h.1, h.2, lead_tight h.0 end ls h.3)
+lead_tight at end (said.Term t ∷ ls) h = (h.0, h.1, h.2, lead_tight h.0 end ls h.3)
+
+each_said : (ls : List Line) → Each IsRow ls → Each IsWithinLimits ls → Each IsSome ls → Each IsSaid ls
+each_said [] rows within some = tt
+each_said (l ∷ ls) rows within some = (
+  record { row = printed l; read = record { written = l; says = rows.0.said.says; within = within.0; kept = sym rows.0.kept }; some = some.0 },
+  each_said ls rows.1 within.1 some.1,
+)
+
+entries_said : (d : List (ℕ × Line)) → Each IsSaid (map line_at d) → Each (λ (e : ℕ × Line). IsSaid e.1) d
+entries_said [] h = tt
+entries_said (e ∷ d) h = (h.0, entries_said d h.1)
+
+entries_sorts : (d : List (ℕ × Line)) → map sort_of (map line_at d) ≡ sorts_of d
+entries_sorts [] = refl
+entries_sorts (e ∷ d) = ap (λ (ss : List Sort). sort_of e.1 ∷ ss) (entries_sorts d)
+
+-- ---- the items
+
+each_item : (m : ModuleState) (f g : ℕ) (xs : List Item) (groups : List (ℕ × List ℕ)) (k : AreLined m f g xs groups) → Each IsItem (items_of m f g xs groups k)
+each_item m f g [] groups k = tt
+each_item m f g (item.Kept text ∷ xs) groups (inl k) = (refl, each_item m f g xs groups k.1)
+each_item m f g (item.Kept text ∷ xs) groups (inr k) = (refl, each_item m f g xs k.1 k.4)
+each_item m f g (item.Global number text ∷ xs) groups k = (refl, each_item m f (suc g) xs groups k.2)
+each_item m f g (item.Declared number text ∷ xs) groups k = (refl, each_item m (suc f) g xs groups k.2)
+each_item m f g (item.Defined number ∷ xs) groups k =
+    let func = k.1.func in
+    (has_blocks m (target_of func) (free_after_params 0 func.params) func.blocks k.1.lined.blocks (some_blocks m func k.1.lined), each_item m (suc f) g xs groups k.2)
+
+each_printed : (m : ModuleState) (f g : ℕ) (xs : List Item) (groups : List (ℕ × List ℕ)) (k : AreLined m f g xs groups) → Each (IsItemBy IsPrinted) (items_of m f g xs groups k)
+each_printed m f g [] groups k = tt
+each_printed m f g (item.Kept text ∷ xs) groups (inl k) = (tt, each_printed m f g xs groups k.1)
+each_printed m f g (item.Kept text ∷ xs) groups (inr k) = (tt, each_printed m f g xs k.1 k.4)
+each_printed m f g (item.Global number text ∷ xs) groups k = (tt, each_printed m f (suc g) xs groups k.2)
+each_printed m f g (item.Declared number text ∷ xs) groups k = (tt, each_printed m (suc f) g xs groups k.2)
+each_printed m f g (item.Defined number ∷ xs) groups k = (func_said m k.1.func k.1.lined, each_printed m (suc f) g xs groups k.2)
+
+abbrev accepted_by : PartIsReducible → (m : ModuleState) (a : IsAcceptedModule m) (h : AreLined m 0 0 m.items m.groups) → IsAccepted (flat_map item_lines (all_items m h)) (module_by m h)
+accepted_by part m a h =
+    let all = all_items m h in
+    let groups : groups_of all ≡ m.groups = groups_are m 0 0 m.items m.groups h in
+    record {
+      items = all;
+      named = record {
+        shape = record { lines = refl; each = each_item m 0 0 m.items m.groups h };
+        sound = no_name_faults m h a.distinct;
+        whole = record {
+          meaning = record {
+            effects = effects_in m.groups;
+            keeps = keeps_in;
+            effects_are = λ post. subst (λ gs. IsEffectsOf post gs (effects_in m.groups post)) (sym groups) (some_effects post m.groups).1;
+            keeps_are = λ attrs. (some_keeps attrs).1;
+          };
+          spare = no_room;
+          module_is = refl;
+        };
+      };
+      types = no_type_faults m h a.distinct;
+      edges = no_edge_faults part m h;
+      order = no_order_faults part m h;
+      reducible = no_loops part m h;
+    }
+
+pub read_again : PartIsReducible → (m : ModuleState) → IsAcceptedModule m → ((n : ℕ) (f : FuncState) → slice_get m.bodies n ≡ Some (Some f) → IsNumbered f) → length (module_text m) < 10 ^ 9 →
+    ((n : ℕ) → IsModuleCause (module_text m) (Limit n) → ⊥) → IsReadInOrder m
+read_again part m a numbered short none =
+    let h = lined_items m numbered 0 0 None m.items m.groups a.items short in
+    let all = all_items m h in
+    let n = module_by m h in
+    let lines = items_said None all in
+    let one = same_in_order m h in
+    let same : module_text m ≡ module_text n = same_text m n one in
+    let sound : IsSound (effects_in m.groups) keeps_in no_room all = record { names = no_name_faults m h a.distinct; types = no_type_faults m h a.distinct } in
+    let text : module_text m ≡ rows_text lines = same ∙ text_printed (effects_in m.groups) keeps_in no_room all sound (each_item m 0 0 m.items m.groups h) (each_printed m 0 0 m.items m.groups h) in
+    let rows = lines_rows m 0 0 None m.items m.groups h in
+    let rows_are_so : rows_of (module_text m) ≡ map printed lines = ap rows_of text ∙ rows_are lines (rows_printed lines rows) in
+    let all_say : AreSaid (rows_of (module_text m)) lines = subst (λ (rs : List (List ℕ)). AreSaid rs lines) (sym rows_are_so) (rows_say lines rows) in
+    let within = are_within (module_text m) lines Outside none all_say (lines_walk m 0 0 None m.items m.groups h) in
+    let entries = flat_map item_lines all in
+    let bare_lines : tight lines ≡ map line_at entries = lines_tight m 0 0 None m.items m.groups h in
+    let each : Each IsSaid (map line_at entries) =
+    subst (λ (ls : List Line). Each IsSaid ls) bare_lines (each_said (tight lines) (each_tight IsRow lines rows) (each_tight IsWithinLimits lines within.within) (tight_some lines)) in
+    let lead : Lead outset (sorts_of entries) within.progress =
+    subst (λ (ss : List Sort). Lead outset ss within.progress) (ap (map sort_of) bare_lines ∙ entries_sorts entries) (lead_tight outset within.progress lines within.lead) in
+    let basis : IsBasis all = record {
+      each = each_item m 0 0 m.items m.groups h;
+      said_all = each_flat (λ (e : ℕ × Line). IsSaid e.1) item_lines all (entries_said entries each);
+      placed = record { end = within.progress; lead = lead; outside = ap is_outside within.place_is };
+    } in
+    read_in_order m n one (items_again_read entries n (accepted_by part m a h) basis (subst (λ (t : List ℕ). length t < 10 ^ 9) same short))
