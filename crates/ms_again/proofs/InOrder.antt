@@ -92,10 +92,10 @@ one_local p ks j k l e same = by (nat_lt k p) (nat_lt l p) refl refl
         place_one ks k l (place_less ks j k e) (omega arith)
 
 -- whether a result is a local, before and in order
-abbrev IsTold : ℕ → List ℕ → ℕ → ℕ → Type 0
+abbrev pub IsTold : ℕ → List ℕ → ℕ → ℕ → Type 0
 IsTold p ks l k = (local_at p ks k == local_at p ks l) ≡ (k == l)
 
-told : (p : ℕ) (ks : List ℕ) (l : ℕ) → Each (IsTold p ks l) ks
+pub told : (p : ℕ) (ks : List ℕ) (l : ℕ) → Each (IsTold p ks l) ks
 told p ks l = each_at (IsTold p ks l) ks one
   where
     one : (j k : ℕ) → slice_get ks j ≡ Some k → IsTold p ks l k

@@ -15,12 +15,12 @@ use Rattle.ms_ir.specs.Module.{ModuleState}
 use Rattle.ms_again.specs.Same.{own_name, plain_param, plain_inst, plain_block, plain_func, plain_module, IsSameModule}
 use Rattle.ms_again.specs.Ordered.{inst_by, term_by, result_of, results_of, results_in, local_at, ordered_local, ordered_val, ordered_insts, ordered_blocks, insts_count, ordered, ordered_module, IsSameInOrder}
 
-own_twice : (n : Name) → own_name (own_name n) ≡ own_name n
+pub own_twice : (n : Name) → own_name (own_name n) ≡ own_name n
 own_twice (Word text) = refl
 own_twice (Number k) = refl
 own_twice Absent = refl
 
-params_twice : (ps : List Param) → map plain_param (map plain_param ps) ≡ map plain_param ps
+pub params_twice : (ps : List Param) → map plain_param (map plain_param ps) ≡ map plain_param ps
 params_twice [] = refl
 params_twice (p ∷ ps) =
     ap (λ n. let q : Param = record p { name = n } in q ∷ map plain_param (map plain_param ps)) (own_twice p.name) ∙ ap (λ (rest : List Param). plain_param p ∷ rest) (params_twice ps)

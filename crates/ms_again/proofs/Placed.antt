@@ -44,7 +44,7 @@ lead_few at end [] few h = subst (λ p. AreFew p) h few
 lead_few at end (x ∷ xs) few h = lead_few h.0 end xs h.2 h.3
 
 -- an empty line may stand anywhere, and changes nothing
-blank_stays : (at : Progress) → behind at sort.Blank ≡ Some at
+pub blank_stays : (at : Progress) → behind at sort.Blank ≡ Some at
 blank_stays at = by at.place at.functions at.blocks at.insts
   where
     by : (p : Place) (f b i : ℕ) → behind (record { place = p; functions = f; blocks = b; insts = i }) sort.Blank ≡ Some (record { place = p; functions = f; blocks = b; insts = i })

@@ -75,7 +75,7 @@ pub record Lined (m : ModuleState) (f : FuncState) : Type 0 where
 abbrev pub func_lines : (m : ModuleState) (f : FuncState) → Lined m f → FuncLines
 func_lines m f w = lines_of m (target_of f) w.accepted.all_said.head f w.blocks
 
-result_made : (s : Scope) (i : RawInst) → has_result (inst_of s i) ≡ makes i
+pub result_made : (s : Scope) (i : RawInst) → has_result (inst_of s i) ≡ makes i
 result_made s (Alloca size head rest) = refl
 result_made s (Gep base offset head index rest) = refl
 result_made s (Load ty ptr rest) = refl
@@ -88,14 +88,14 @@ result_made s (Select c ty a b rest) = refl
 result_made s (Cast op flags from a to rest) = refl
 result_made s (Phi ty entries rest) = refl
 
-insts_both : (m : ModuleState) (f : FuncState) (xs : List Placed) → ((k : ℕ) (x : Placed) → slice_get xs k ≡ Some x → (h : LineOf m x) × InstFacts m f x h) → (hs : Each (LineOf m) xs) × AllInsts m f xs hs
+pub insts_both : (m : ModuleState) (f : FuncState) (xs : List Placed) → ((k : ℕ) (x : Placed) → slice_get xs k ≡ Some x → (h : LineOf m x) × InstFacts m f x h) → (hs : Each (LineOf m) xs) × AllInsts m f xs hs
 insts_both m f [] g = (tt, tt)
 insts_both m f (x ∷ xs) g =
     let one = g 0 x refl in
     let rest = insts_both m f xs (λ k y e. g (suc k) y e) in
     ((one.0, rest.0), (one.1, rest.1))
 
-blocks_both : (m : ModuleState) (f : FuncState) (bs : List Block) → ((b : ℕ) (x : Block) → slice_get bs b ≡ Some x → (h : BlockOf m x) × BlockFacts m f x h) → (hs : Each (BlockOf m) bs) × AllBlocks m f bs hs
+pub blocks_both : (m : ModuleState) (f : FuncState) (bs : List Block) → ((b : ℕ) (x : Block) → slice_get bs b ≡ Some x → (h : BlockOf m x) × BlockFacts m f x h) → (hs : Each (BlockOf m) bs) × AllBlocks m f bs hs
 blocks_both m f [] g = (tt, tt)
 blocks_both m f (x ∷ bs) g =
     let one = g 0 x refl in
@@ -107,11 +107,11 @@ block_insts [] b x e = absurd (cc)
 block_insts (y ∷ bs) zero x e = let same : y ≡ x = cc in ap (λ (z : Block). z.insts) same
 block_insts (y ∷ bs) (suc b) x e = block_insts bs b x e
 
-none_result : (o : Option LocalNo) → is_some o ≡ false → o ≡ None
+pub none_result : (o : Option LocalNo) → is_some o ≡ false → o ≡ None
 none_result None e = refl
 none_result (Some l) e = absurd (cc)
 
-inst_both : (m : ModuleState) (f : FuncState) → IsNumbered f → IsAcceptedFunc m f → AreGiven f → (b k : ℕ) (x : Placed) → slice_get (insts_at f.blocks b) k ≡ Some x → (h : LineOf m x) × InstFacts m f x h
+pub inst_both : (m : ModuleState) (f : FuncState) → IsNumbered f → IsAcceptedFunc m f → AreGiven f → (b k : ℕ) (x : Placed) → slice_get (insts_at f.blocks b) k ≡ Some x → (h : LineOf m x) × InstFacts m f x h
 inst_both m f numbered a given b k x at =
     let said = a.all_said.insts b k x at in
     let made : makes said.line ≡ is_some x.result = sym (result_made said.scope said.line) ∙ ap has_result (sym said.is) ∙ sym (numbered.gives b k x at) in
@@ -123,7 +123,7 @@ inst_both m f numbered a given b k x at =
       },
     )
 
-pub lined : (m : ModuleState) (f : FuncState) → IsNumbered f → IsAcceptedFunc m f → AreGiven f → Lined m f
+abbrev pub lined : (m : ModuleState) (f : FuncState) → IsNumbered f → IsAcceptedFunc m f → AreGiven f → Lined m f
 lined m f numbered a given =
     let both = blocks_both m f f.blocks (λ b x at.
     let insts = insts_both m f x.insts (λ k y e. inst_both m f numbered a given b k y (ap (λ (xs : List Placed). slice_get xs k) (block_insts f.blocks b x at) ∙ e)) in

@@ -197,7 +197,7 @@ own_each P f h =
 
 -- ---- they may stand behind one another
 
-walk_join : (at mid end : Place) (xs ys : List Sort) → Walk at xs mid → Walk mid ys end → Walk at (xs ++ ys) end
+pub walk_join : (at mid end : Place) (xs ys : List Sort) → Walk at xs mid → Walk mid ys end → Walk at (xs ++ ys) end
 walk_join at mid end [] ys h k = subst (λ p. Walk p ys end) (sym h) k
 walk_join at mid end (x ∷ xs) ys h k = (h.0, h.1, walk_join h.0 mid end xs ys h.2 k)
 

@@ -1,11 +1,15 @@
 pub mod Built
 pub mod Faults
 pub mod Func
+pub mod Items
 pub mod Limits
 pub mod Lines
 pub mod Names
 pub mod Own
 pub mod Parts
+pub mod Reprint
 pub mod Said
 pub mod Sound
+pub mod Twice
 pub mod Valid
+pub mod Whole
