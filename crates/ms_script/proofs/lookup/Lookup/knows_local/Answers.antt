@@ -1,0 +1,6 @@
+use Rattle.std.proofs.lemmas.Bool.{false≢true}
+use Rattle.ms_script.proofs.ScopeLemmas.{no_local}
+use Rattle.ms_script.proofs.lookup.Lookup.knows_local.Goals as goal
+
+pub returns-in-None : goal.returns-in-None
+returns-in-None c = (λ t. absurd (false≢true t), λ h. absurd (no_local c.args.self.now.func.now c.args.name.now c.in-None.ensures h))
