@@ -80,7 +80,10 @@ const KINDS: [(&str, u32); 11] = [
     ("insert @f %l 0: %new = add i32 1, 2", 13),
     ("insert @f %l 0: %new = getelementptr i8, ptr %p, i64 1", 13),
     ("insert @f %l 0: %new = select i1 %c, ptr %p, ptr %a", 13),
-    ("insert @f %l 0: call void @llvm.memcpy.p0.p0.i64(ptr %p, ptr %a, i64 4, i1 false)", 0),
+    (
+        "insert @f %l 0: call void @llvm.memcpy.p0.p0.i64(ptr %p, ptr %a, i64 4, i1 false)",
+        0,
+    ),
     ("unlink @f %dead 0", 0),
     ("unlink @f %dead 1", 13),
 ];

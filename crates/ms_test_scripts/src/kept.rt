@@ -83,14 +83,50 @@ fn rows() -> [(Change, (bool, bool, bool)); 11] {
         (none, (true, true, true)),
         (store, (true, false, true)),
         (change(Some(3), true), (true, true, false)),
-        (Change { own_only: true, ..store }, (true, true, true)),
+        (
+            Change {
+                own_only: true,
+                ..store
+            },
+            (true, true, true),
+        ),
         (call, (false, true, true)),
-        (Change { captured: true, ..call }, (false, false, false)),
+        (
+            Change {
+                captured: true,
+                ..call
+            },
+            (false, false, false),
+        ),
         (load, (true, false, true)),
-        (Change { own_only: true, ..load }, (true, false, true)),
-        (Change { captured: true, ..none }, (false, false, false)),
-        (Change { unlinked: true, ..none }, (false, false, false)),
-        (Change { unlinked: true, ..store }, (false, false, false)),
+        (
+            Change {
+                own_only: true,
+                ..load
+            },
+            (true, false, true),
+        ),
+        (
+            Change {
+                captured: true,
+                ..none
+            },
+            (false, false, false),
+        ),
+        (
+            Change {
+                unlinked: true,
+                ..none
+            },
+            (false, false, false),
+        ),
+        (
+            Change {
+                unlinked: true,
+                ..store
+            },
+            (false, false, false),
+        ),
     ]
 }
 

@@ -40,7 +40,10 @@ const FORMS: [(&str, u32); 35] = [
     ("remove @z %0 -2", 8),
     ("remove @z %0 4294967295", 12),
     ("remove @z %0 4294967296", 8),
-    ("remove @z %0 00000000000000000000000000000000000000000000000002", 0),
+    (
+        "remove @z %0 00000000000000000000000000000000000000000000000002",
+        0,
+    ),
     ("move @z %0 2 to %0 1", 0),
     ("move @z %0 2 %0 1", 8),
     ("move @z %0 2 to %0", 8),
@@ -68,23 +71,50 @@ const CALLS: [(&str, u32); 13] = [
     ("insert @z %0 0: call void @use(ptr %p, i32 1)", 8),
     ("insert @z %0 0: call i32 @use(ptr %p)", 8),
     ("insert @z %0 0: call i32 @sum(i32 1)", 0),
-    ("insert @z %0 0: %w = call i32 (i32, ...) @sum(i32 1, i64 2)", 0),
+    (
+        "insert @z %0 0: %w = call i32 (i32, ...) @sum(i32 1, i64 2)",
+        0,
+    ),
     ("insert @z %0 0: call i32 @sum()", 8),
     ("insert @z %0 0: call i64 @sum(i32 1)", 8),
     ("insert @z %0 0: call i32 @z(ptr %p, i64 %n)", 0),
 ];
 
 const LIMITS: [(&str, u32); 10] = [
-    ("insert @z %0 0: call void @llvm.memcpy.p0.p0.i64(ptr %p, ptr @g, i64 4096, i1 false)", 0),
-    ("insert @z %0 0: call void @llvm.memcpy.p0.p0.i64(ptr %p, ptr @g, i64 4097, i1 false)", 9),
-    ("insert @z %0 0: call void @llvm.memcpy.p0.p0.i64(ptr %p, ptr @g, i64 -0, i1 false)", 8),
-    ("insert @z %0 0: call void @llvm.memcpy.p0.p0.i64(ptr %p, ptr @g, i64 007, i1 false)", 0),
+    (
+        "insert @z %0 0: call void @llvm.memcpy.p0.p0.i64(ptr %p, ptr @g, i64 4096, i1 false)",
+        0,
+    ),
+    (
+        "insert @z %0 0: call void @llvm.memcpy.p0.p0.i64(ptr %p, ptr @g, i64 4097, i1 false)",
+        9,
+    ),
+    (
+        "insert @z %0 0: call void @llvm.memcpy.p0.p0.i64(ptr %p, ptr @g, i64 -0, i1 false)",
+        0,
+    ),
+    (
+        "insert @z %0 0: call void @llvm.memcpy.p0.p0.i64(ptr %p, ptr @g, i64 007, i1 false)",
+        0,
+    ),
     ("insert @z %0 0: %b = alloca [65536 x i8]", 13),
     ("insert @z %0 0: %b = alloca [65537 x i8]", 9),
-    ("insert @z %0 0: %b = getelementptr i8, ptr %p, i64 2147483648", 13),
-    ("insert @z %0 0: %b = getelementptr i8, ptr %p, i64 2147483649", 9),
-    ("insert @z %0 0: %b = getelementptr i8, ptr %p, i64 -2147483648", 13),
-    ("insert @z %0 0: %b = getelementptr i8, ptr %p, i64 -2147483649", 9),
+    (
+        "insert @z %0 0: %b = getelementptr i8, ptr %p, i64 2147483648",
+        13,
+    ),
+    (
+        "insert @z %0 0: %b = getelementptr i8, ptr %p, i64 2147483649",
+        9,
+    ),
+    (
+        "insert @z %0 0: %b = getelementptr i8, ptr %p, i64 -2147483648",
+        13,
+    ),
+    (
+        "insert @z %0 0: %b = getelementptr i8, ptr %p, i64 -2147483649",
+        9,
+    ),
 ];
 
 fn check_rows(rt: &impl Abort, alloc: Global, module: &Module)
@@ -103,13 +133,20 @@ fn lines_are_read(rt: HostRuntime) {
 }
 
 // A text, a byte so many times, and another text.
-fn padded(alloc: Global, before: &str, byte: u8, times: u32, behind: &str) -> Result<Text, NoMemory> {
-    let mut text = Text::new(alloc);
-    text.append(before.as_bytes())?;
+fn padded(
+    alloc: Global,
+    before: &str,
+    byte: u8,
+    times: u32,
+    behind: &str,
+) -> Result<Text, NoMemory> {
+    let mut text = Text::from_bytes(alloc, before.as_bytes())?;
     for _ in 0..times {
         text.push(byte)?;
     }
-    text.append(behind.as_bytes())?;
+    for other in behind.as_bytes() {
+        text.push(*other)?;
+    }
     Ok(text)
 }
 
@@ -134,7 +171,10 @@ fn check_long(rt: &impl Abort, alloc: Global, module: &Module)
 {
     for (before, byte, times, behind, number, line) in &LONG {
         match padded(alloc, before, *byte, *times, behind) {
-            Ok(text) => assert!(rt; told(alloc, module, text.bytes()) == Ok((*number, *line)), "{before}{times}{behind}"),
+            Ok(text) => assert!(rt;
+                told(alloc, module, text.bytes()) == Ok((*number, *line)),
+                "{before}{times}{behind}"
+            ),
             Err(NoMemory) => assert!(rt; false, "no memory"),
         }
     }

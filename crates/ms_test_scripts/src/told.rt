@@ -82,6 +82,9 @@ pub fn expect(rt: &impl Abort, alloc: Global, module: &Module, rows: &[(&str, u3
 {
     for (script, number) in rows {
         let wanted = if *number == 0 { (0, 0) } else { (*number, 1) };
-        assert!(rt; told(alloc, module, script.as_bytes()) == Ok(wanted), "{script}");
+        assert!(rt;
+            told(alloc, module, script.as_bytes()) == Ok(wanted),
+            "{script}"
+        );
     }
 }
