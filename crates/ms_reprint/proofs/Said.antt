@@ -118,6 +118,7 @@ local_less f l ty (inr (b, k, x, gives, is)) = by (nat_lt l.0 (length f.params))
   where
     on : IsIn (results_in f.blocks) l.0
     on = given_in f.blocks b k x l gives.found gives.gives
+
     by : (t : Bool) → nat_lt l.0 (length f.params) ≡ t → local_at (length f.params) (results_in f.blocks) l.0 < length f.params + length (results_in f.blocks)
     by true t = let less : l.0 < length f.params = grind (arith, tests) in let stays = ap (λ (b : Bool). if b then l.0 else length f.params + place_in (results_in f.blocks) l.0) t in omega arith
     by false t =
