@@ -4,7 +4,7 @@ use Rattle.std.specs.List.{slice_get, slice_index_or, flat_map}
 use Rattle.std.specs.Option.{is_some, option_map}
 use Rattle.std.proofs.lemmas.List.{length-map}
 use Rattle.ms_ir.specs.declared.names.Name.{Name}
-use Rattle.ms_ir.specs.declared.names.Name.TheVariants.{Word, Number, Absent}
+use Rattle.ms_ir.specs.declared.names.Name.TheVariants.{Absent}
 use Rattle.ms_ir.specs.declared.names.LocalNo.{LocalNo}
 use Rattle.ms_ir.specs.declared.names.Param.{Param}
 use Rattle.ms_ir.specs.declared.names.Ty.{Ty}
@@ -32,14 +32,13 @@ use Rattle.ms_grammar.specs.declared.line.RawInst.{RawInst}
 use Rattle.ms_grammar.specs.declared.line.RawInst.TheVariants as raw
 use Rattle.ms_grammar.specs.declared.line.RawTerm.{RawTerm}
 use Rattle.ms_grammar.specs.declared.line.RawTerm.TheVariants as end
-use Rattle.ms_grammar.specs.declared.line.Line.{Line}
 use Rattle.ms_grammar.specs.declared.line.Line.TheVariants as line
 use Rattle.ms_print.specs.Numbering.{shown_name, free_after, shown_params, free_after_params, free_after_inst, free_after_insts, free_after_block, shown_labels, is_given, name_among, name_in, param_name, name_of_param, local_name, labels_of}
 use Rattle.ms_print.specs.Lines.{Shown, shown_in, word_at, label_of, raw_val, raw_arg, raw_entry, raw_inst, raw_given, raw_term, result_name, inst_line, term_line, define_line, define_with}
 use Rattle.ms_print.specs.Text.{ended, line_text, insts_text, label_text, block_text, blocks_text, func_text, no_notes, body_text, item_text, has_body, gap, items_text, module_text}
 use Rattle.ms_print.proofs.NumberingLemmas.{shown_params-length}
 use Rattle.ms_again.specs.Same.{own_name, plain_param}
-use Rattle.ms_again.specs.Ordered.{is_open, added_in, step_of, joined, index_by, arg_by, entry_by, inst_by, given_by, term_by, number_in, result_of, results_of, results_in, place_in, local_at, ordered_local, ordered_val, ordered_inst, ordered_insts, ordered_blocks, ordered, ordered_module, IsSameInOrder}
+use Rattle.ms_again.specs.Ordered.{is_open, added_in, step_of, index_by, arg_by, entry_by, inst_by, given_by, term_by, number_in, result_of, results_of, results_in, place_in, local_at, ordered_local, ordered_val, ordered_inst, ordered_insts, ordered_blocks, ordered, ordered_module, IsSameInOrder}
 use Rattle.ms_again.proofs.Fine.{each_first, each_second}
 use Rattle.ms_again.proofs.Sites.{each_at}
 use Rattle.ms_again.proofs.SameText.{shown_own, free_own, params_plain, free_params_plain, label_plain}

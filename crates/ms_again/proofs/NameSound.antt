@@ -16,7 +16,7 @@ use Rattle.ms_grammar.specs.declared.line.RawTerm.TheVariants.{Br, CondBr, Ret, 
 use Rattle.ms_resolve.specs.Shape.{InstLine, BlockLines, FuncLines, ItemLines, plain, body}
 use Rattle.ms_resolve.specs.Made.{made_in, named_in, name_of_made}
 use Rattle.ms_resolve.specs.Used.{Names, values_of, term_values, inst_blocks, term_blocks, callee_of, local_of, global_of, arg_value, entry_value, entry_block, inst_names, term_names}
-use Rattle.ms_resolve.specs.Faults.{IsIn, IsNotIn, NamesFirst, Symbol, symbols_of, name_of_symbol, IsSymbolAgain, IsMadeAgain, StandsAt, UsesUnknown, HasFaultIn, HasNameFault}
+use Rattle.ms_resolve.specs.Faults.{IsIn, NamesFirst, symbols_of, name_of_symbol, IsSymbolAgain, IsMadeAgain, StandsAt, UsesUnknown, HasFaultIn, HasNameFault}
 use Rattle.ms_resolve.specs.Faults as named
 use Rattle.ms_resolve.specs.Cause.{NoNameFault}
 use Rattle.ms_resolve.proofs.FirstFacts.{local_first, block_first}

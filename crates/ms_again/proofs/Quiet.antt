@@ -1,5 +1,5 @@
 -- What is printed for a line holds no line feed, and is said by its printed form.
-use Rattle.std.proofs.Common.{◌≡◌, ◌==◌, ◌≤◌, ◌<◌, ◌+◌, ◌-◌, ℕ, zero, suc, Bool, true, false, List, [], ◌∷◌, ◌++◌, length, map, drop, get_or, slice_range, refl, sym, ap, subst, ◌∙◌, inl, inr, arith}
+use Rattle.std.proofs.Common.{◌≡◌, ◌==◌, ◌≤◌, ◌<◌, ◌+◌, ◌-◌, ℕ, zero, suc, Bool, true, false, List, [], ◌∷◌, ◌++◌, length, drop, get_or, slice_range, refl, sym, ap, subst, ◌∙◌, inl, inr, arith}
 use Rattle.std.specs.List.{list_all}
 use Rattle.std.specs.Char.{is_ascii_digit}
 use Rattle.std.proofs.lemmas.List.{append-nil, get_or-take, get_or-drop}
@@ -13,9 +13,8 @@ use Rattle.ms_lex.specs.declared.token.TokenKind.TheVariants.{Word, Local, Globa
 use Rattle.ms_grammar.specs.Kept.{Each}
 use Rattle.ms_grammar.specs.Parts.{text_of}
 use Rattle.ms_grammar.specs.Form.{Scale, no_scale, form, inst_parts, result_parts, printed}
-use Rattle.ms_ir.specs.declared.names.Param.{Param}
-use Rattle.ms_grammar.specs.Fits.{FitsLine, IsParam}
-use Rattle.ms_grammar.specs.Grammar.{Says, kept_of, without_name}
+use Rattle.ms_grammar.specs.Fits.{FitsLine}
+use Rattle.ms_grammar.specs.Grammar.{Says, kept_of}
 use Rattle.ms_grammar.specs.declared.line.Line.{Line}
 use Rattle.ms_grammar.specs.declared.line.Line.TheVariants as said
 use Rattle.ms_grammar.specs.declared.line.RawInst.{RawInst}

@@ -1,6 +1,6 @@
 -- The lines of an accepted function give the function in order.
-use Rattle.std.proofs.Common.{◌≡◌, ◌≤◌, ◌<◌, ◌+◌, ◌^◌, ◌==◌, ℕ, zero, suc, Bool, true, false, if◌then◌else◌, nat_lt, List, [], ◌∷◌, ◌++◌, Option, Some, None, option_map, length, map, refl, sym, ap, subst, ◌∙◌, inl, inr, ⊎_elim, arith, tests, append_assoc, length-append, eqb-true, eq-eqb}
-use Rattle.std.specs.Prelude.{slice_get, slice_index_or}
+use Rattle.std.proofs.Common.{◌≡◌, ◌≤◌, ◌<◌, ◌+◌, ◌^◌, ◌==◌, ℕ, suc, Bool, true, false, if◌then◌else◌, nat_lt, List, [], ◌∷◌, ◌++◌, Option, Some, None, option_map, length, map, refl, sym, ap, subst, ◌∙◌, ⊎_elim, arith, tests, append_assoc, length-append, eqb-true, eq-eqb}
+use Rattle.std.specs.Prelude.{slice_get}
 use Rattle.std.specs.List.{flat_map}
 use Rattle.std.specs.Option.{is_some}
 use mathlib.Core.Path.{fun_ext}
@@ -16,7 +16,6 @@ use Rattle.ms_ir.specs.declared.inst.Val.{Val}
 use Rattle.ms_ir.specs.declared.inst.Val.TheVariants as val
 use Rattle.ms_ir.specs.declared.inst.Arg.{Arg}
 use Rattle.ms_ir.specs.declared.inst.Entry.{Entry}
-use Rattle.ms_ir.specs.declared.inst.Effects.{Effects}
 use Rattle.ms_ir.specs.declared.inst.Inst.{Inst}
 use Rattle.ms_ir.specs.declared.inst.Inst.TheVariants as inst
 use Rattle.ms_ir.specs.declared.inst.Term.{Term}
@@ -35,27 +34,25 @@ use Rattle.ms_grammar.specs.declared.line.RawInst.TheVariants.{Alloca, Gep, Load
 use Rattle.ms_grammar.specs.declared.line.RawTerm.{RawTerm}
 use Rattle.ms_grammar.specs.declared.line.RawTerm.TheVariants.{Br, CondBr, Ret, Unreachable}
 use Rattle.ms_resolve.specs.Meaning.{effects_in, keeps_in}
-use Rattle.ms_resolve.specs.Shape.{InstLine, BlockLines, FuncLines}
-use Rattle.ms_resolve.specs.Made.{makes}
 use Rattle.ms_attrs.specs.Effects.{both}
 use Rattle.ms_grammar.specs.Parts.{behind_blank}
 use Rattle.ms_grammar.specs.Form.{name_text}
-use Rattle.ms_resolve.specs.Scope.{Scope, number_of_name, number_of_word, marks_of, sig_of, effects_of_sig, value_of, block_of, arg_of, args_of, entry_of, keeps_at, behind_first, inst_of, term_of, given_of, local_behind, locals_behind, all_made, all_locals}
+use Rattle.ms_resolve.specs.Scope.{Scope, number_of_name, number_of_word, marks_of, sig_of, effects_of_sig, value_of, block_of, arg_of, args_of, entry_of, keeps_at, behind_first, inst_of, term_of, local_behind, locals_behind, all_made, all_locals}
 use Rattle.ms_resolve.specs.Used.{values_of, term_values, inst_blocks, term_blocks, arg_value, entry_value, entry_block}
 use Rattle.ms_resolve.specs.Faults.{IsIn}
 use Rattle.ms_valid.proofs.ListLemmas.{in_one, in_flat, in_right, in_here, in_append, in_nil}
-use Rattle.ms_print.specs.Numbering.{shown_name, free_after, shown_params, free_after_params, free_after_inst, free_after_insts, free_after_block}
+use Rattle.ms_print.specs.Numbering.{shown_name, free_after, shown_params, free_after_params, free_after_inst, free_after_block}
 use Rattle.ms_accepted.specs.Func.{IsScopeIn}
 use Rattle.ms_again.specs.Same.{own_name, plain_param}
-use Rattle.ms_again.specs.Ordered.{number_in, result_of, results_of, results_in, place_in, local_at, ordered_local, ordered_val, ordered_inst, ordered_insts, ordered_blocks, insts_count, ordered, arg_by, entry_by, inst_by, given_by, term_by}
-use Rattle.ms_again.proofs.Renaming.{Renaming, renamed_val, renamed_arg, renamed_entry, renamed_inst, renamed_given, renamed_term}
+use Rattle.ms_again.specs.Ordered.{number_in, result_of, results_of, results_in, place_in, local_at, ordered_local, ordered_val, ordered_inst, ordered_insts, ordered_blocks, insts_count, ordered, arg_by, entry_by, inst_by, term_by}
+use Rattle.ms_again.proofs.Renaming.{renamed_val, renamed_arg, renamed_entry, renamed_inst, renamed_term}
 use Rattle.ms_again.proofs.AgainNames.{own_shown}
 use Rattle.ms_again.proofs.Again.{label_again}
 use Rattle.ms_again.proofs.Names.{label_name}
 use Rattle.ms_again.proofs.Plain.{plain_at, plain_insts, plain_blocks, plain_of}
 use Rattle.ms_again.proofs.Right.{shown_next}
-use Rattle.ms_reprint.proofs.Lines.{Target, ren, LineOf, BlockOf, inst_line_of, insts_lines, lines_of_block, blocks_lines, lines_of, insts_many, size_of, inst_less, block_less, makes_as}
-use Rattle.ms_reprint.proofs.Names.{AreGiven, target_of, IsThere, is_there}
+use Rattle.ms_reprint.proofs.Lines.{Target, ren, LineOf, BlockOf, inst_line_of, insts_lines, blocks_lines, lines_of, insts_many, inst_less, block_less, makes_as}
+use Rattle.ms_reprint.proofs.Names.{AreGiven, target_of, is_there}
 use Rattle.ms_reprint.proofs.Said.{IsKnownVal, IsKnownBlock, IsKnownUse}
 
 -- ---- what lines are read under

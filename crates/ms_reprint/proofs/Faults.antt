@@ -1,33 +1,28 @@
 -- The lines of an accepted function have no fault in their names, their types, their edges or the order of uses.
-use Rattle.std.proofs.Common.{◌≡◌, ◌≤◌, ◌<◌, ◌+◌, ◌^◌, ◌⊎◌, ℕ, zero, suc, Bool, true, false, if◌then◌else◌, nat_lt, List, [], ◌∷◌, ◌++◌, Option, Some, None, option_map, length, map, take, refl, sym, ap, subst, ◌∙◌, inl, inr, ⊎_elim, arith, tests}
-use Rattle.std.specs.Prelude.{◌≢◌, Contains, slice_get, slice_index_or}
+use Rattle.std.proofs.Common.{◌≡◌, ◌<◌, ◌+◌, ℕ, zero, suc, Bool, true, false, if◌then◌else◌, nat_lt, List, [], ◌∷◌, Option, Some, None, length, map, take, refl, sym, ap, subst, ◌∙◌, inl, inr, ⊎_elim, arith}
+use Rattle.std.specs.Prelude.{slice_get}
 use Rattle.std.specs.List.{flat_map}
 use Rattle.std.specs.Option.{is_some}
 use Rattle.std.proofs.lemmas.Option.{slice_get_within}
 use Rattle.ms_ir.specs.declared.names.Name.{Name}
-use Rattle.ms_ir.specs.declared.names.Name.TheVariants.{Absent}
 use Rattle.ms_ir.specs.declared.names.Ty.{Ty}
-use Rattle.ms_ir.specs.declared.names.Ty.TheVariants.{I1, Ptr}
+use Rattle.ms_ir.specs.declared.names.Ty.TheVariants.{I1}
 use Rattle.ms_ir.specs.declared.names.Param.{Param}
 use Rattle.ms_ir.specs.declared.names.LocalNo.{LocalNo}
 use Rattle.ms_ir.specs.declared.inst.Val.{Val}
-use Rattle.ms_ir.specs.declared.inst.Val.TheVariants as val
 use Rattle.ms_ir.specs.declared.inst.Arg.{Arg}
 use Rattle.ms_ir.specs.declared.inst.Inst.{Inst}
-use Rattle.ms_ir.specs.declared.inst.Inst.TheVariants as inst
 use Rattle.ms_ir.specs.declared.inst.Term.{Term}
-use Rattle.ms_ir.specs.declared.inst.Term.TheVariants as term
 use Rattle.ms_ir.specs.declared.module.Sig.{Sig}
 use Rattle.ms_ir.specs.Inst.{has_result, result_type}
 use Rattle.ms_ir.specs.Func.{Placed, Block, FuncState, insts_at}
 use Rattle.ms_ir.specs.Locals.{HasType, IsNumbered}
 use Rattle.ms_ir.specs.Module.{ModuleState}
-use Rattle.ms_ir.specs.Uses.{Operand, operands_of, term_operands, uses_at, term_uses_at}
-use Rattle.ms_ir.specs.Sound.{HasOtherType, LeadsToFirst, HasBadEntries}
-use Rattle.ms_ir.specs.SoundFunc.{IsValueIn, AreValues, IsSoundInst, IsSoundTerm, IsSoundFunc}
+use Rattle.ms_ir.specs.Uses.{Operand}
+use Rattle.ms_ir.specs.Sound.{HasOtherType}
+use Rattle.ms_ir.specs.SoundFunc.{IsValueIn, IsSoundInst, IsSoundTerm}
 use Rattle.ms_grammar.specs.Kept.{Each}
 use Rattle.ms_grammar.specs.Fits.{IsInt, IsValue, FitsTerm}
-use Rattle.ms_grammar.specs.declared.line.Head.{Head}
 use Rattle.ms_grammar.specs.declared.line.RawVal.{RawVal}
 use Rattle.ms_grammar.specs.declared.line.RawVal.TheVariants.{Num, Local, Global}
 use Rattle.ms_grammar.specs.declared.line.RawInst.{RawInst}
@@ -35,10 +30,10 @@ use Rattle.ms_grammar.specs.declared.line.RawInst.TheVariants.{Alloca, Gep, Load
 use Rattle.ms_grammar.specs.declared.line.RawTerm.{RawTerm}
 use Rattle.ms_grammar.specs.declared.line.RawTerm.TheVariants.{Br, CondBr, Ret, Unreachable}
 use Rattle.ms_resolve.specs.Shape.{InstLine, BlockLines, FuncLines}
-use Rattle.ms_resolve.specs.Made.{makes, made_in, named_in, locals_of, blocks_of, name_of_made}
+use Rattle.ms_resolve.specs.Made.{makes, made_in, named_in, name_of_made}
 use Rattle.ms_resolve.specs.Scope.{Scope, number_of_name, inst_of, term_of}
 use Rattle.ms_resolve.specs.Used.{Names, values_of, term_values, inst_blocks, term_blocks, callee_of, local_of, global_of, inst_names, term_names}
-use Rattle.ms_resolve.specs.Faults.{IsIn, NamesFirst, IsMadeAgain, StandsAt, UsesUnknown, HasFaultIn}
+use Rattle.ms_resolve.specs.Faults.{IsIn, IsMadeAgain, StandsAt, UsesUnknown, HasFaultIn}
 use Rattle.ms_resolve.specs.Faults as named
 use Rattle.ms_resolve.proofs.FirstFacts.{local_first, block_first}
 use Rattle.ms_valid.specs.Faults.{HasInst, HasTerm, CallsOtherwise, ReturnsOtherwise, HasTypeFaultIn, HasEdgeFaultIn, HasOrderFaultIn, type_of_arg}
@@ -46,20 +41,17 @@ use Rattle.ms_valid.specs.Faults as valid
 use Rattle.ms_valid.proofs.ListLemmas.{in_nil, in_one, in_flat, in_append, get_map, map_get}
 use Rattle.ms_accepted.specs.Func.{IsAcceptedFunc}
 use Rattle.ms_again.specs.Same.{plain_param}
-use Rattle.ms_again.specs.Ordered.{results_in, place_in, local_at, arg_by, inst_by, term_by, ordered, ordered_local, ordered_val, ordered_inst}
+use Rattle.ms_again.specs.Ordered.{results_in, place_in, local_at, arg_by, ordered, ordered_local, ordered_val}
 use Rattle.ms_again.proofs.AgainNames.{none_small}
-use Rattle.ms_again.proofs.Carried.{AreAlike, other_inst, other_block, other_type_alike, entries_alike, uses_alike, term_uses_alike, before_alike}
-use Rattle.ms_again.proofs.Names.{shown, named_by}
-use Rattle.ms_again.proofs.NameSound.{names_as, inst_used, term_used, inst_globals, term_globals, callee_is}
-use Rattle.ms_again.proofs.Renaming.{Renaming, renamed_val, renamed_inst, renamed_term}
+use Rattle.ms_again.proofs.NameSound.{names_as, inst_used, term_used}
+use Rattle.ms_again.proofs.Renaming.{renamed_val, renamed_inst}
 use Rattle.ms_again.proofs.Right.{AreApart, apart_at, names_in}
 use Rattle.ms_again.proofs.Sites.{at_each}
-use Rattle.ms_again.proofs.ValidSound.{calls_same}
-use Rattle.ms_reprint.proofs.Parts.{From, at_from, FromBlock, block_from, operand_by, operands_by, from_mapped, term_operands_by, same_result}
-use Rattle.ms_reprint.proofs.Sound.{WasGiver, was_giver, was_local}
-use Rattle.ms_reprint.proofs.Lines.{Target, ren, LineOf, BlockOf, inst_line_of, insts_lines, lines_of_block, blocks_lines, lines_of, things, func_made_as, locals_are, blocks_are, names_are}
-use Rattle.ms_reprint.proofs.Names.{AreGiven, target_of, IsThere, is_there, are_given}
-use Rattle.ms_reprint.proofs.Said.{IsKnownVal, IsKnownBlock, IsKnownUse, inst_use, term_use, contains_at}
+use Rattle.ms_reprint.proofs.Parts.{operand_by, same_result}
+use Rattle.ms_reprint.proofs.Sound.{was_giver, was_local}
+use Rattle.ms_reprint.proofs.Lines.{ren, LineOf, BlockOf, inst_line_of, insts_lines, lines_of_block, blocks_lines, lines_of, things, func_made_as, locals_are, blocks_are, names_are}
+use Rattle.ms_reprint.proofs.Names.{AreGiven, target_of, is_there}
+use Rattle.ms_reprint.proofs.Said.{IsKnownVal, IsKnownBlock, IsKnownUse, inst_use, term_use}
 use Rattle.ms_reprint.proofs.Built.{InstFacts, AllInsts, BlockFacts, AllBlocks}
 use Rattle.ms_print.specs.Numbering.{free_after, free_after_inst, free_after_block, free_after_params}
 

@@ -1,25 +1,20 @@
 -- The printed lines of an accepted function: rows say them, and they may stand behind one another.
-use Rattle.std.proofs.Common.{◌≡◌, ◌≤◌, ◌<◌, ◌+◌, ◌&&◌, ◌^◌, ℕ, zero, suc, Bool, true, false, if◌then◌else◌, List, [], ◌∷◌, ◌++◌, Option, Some, None, length, map, refl, sym, ap, subst, ◌∙◌, arith, append_assoc}
-use Rattle.std.specs.Prelude.{slice_get, slice_index_or}
+use Rattle.std.proofs.Common.{◌≡◌, ◌≤◌, ◌<◌, ◌+◌, ◌&&◌, ◌^◌, ℕ, zero, suc, Bool, true, false, List, [], ◌∷◌, ◌++◌, Option, Some, None, length, map, refl, sym, ap, subst, ◌∙◌, arith, append_assoc}
+use Rattle.std.specs.Prelude.{slice_get}
 use Rattle.std.specs.List.{flat_map}
-use Rattle.std.specs.Option.{is_some}
 use Rattle.std.proofs.lemmas.List.{map-append}
 use Rattle.ms_ir.specs.declared.names.Name.{Name}
 use Rattle.ms_ir.specs.declared.names.Name.TheVariants.{Word, Number, Absent}
 use Rattle.ms_ir.specs.declared.names.Param.{Param}
-use Rattle.ms_ir.specs.declared.inst.Inst.{Inst}
 use Rattle.ms_ir.specs.Func.{Placed, Block, FuncState, insts_at}
 use Rattle.ms_ir.specs.Module.{ModuleState}
 use Rattle.ms_ir.specs.Types.{is_alloca, is_phi}
-use Rattle.ms_ir.specs.SoundFunc.{IsAmongPhis, IsSoundInst, IsSoundFunc}
+use Rattle.ms_ir.specs.SoundFunc.{IsSoundFunc}
 use Rattle.ms_grammar.specs.Kept.{Each}
 use Rattle.ms_grammar.specs.Grammar.{without_name}
-use Rattle.ms_grammar.specs.Parts.{Part}
-use Rattle.ms_grammar.specs.Form.{form, no_scale, printed, word_part, name_text}
+use Rattle.ms_grammar.specs.Form.{printed, word_part}
 use Rattle.ms_grammar.specs.Fits.{IsNamed, MayBeNamed, IsParam}
-use Rattle.ms_grammar.specs.Limits.{IsWithinLimits}
 use Rattle.ms_grammar.specs.declared.keyword.Keyword.TheVariants as word
-use Rattle.ms_grammar.specs.declared.line.Head.{Head}
 use Rattle.ms_grammar.specs.declared.line.Line.{Line}
 use Rattle.ms_grammar.specs.declared.line.Line.TheVariants as said
 use Rattle.ms_grammar.specs.declared.line.RawInst.{RawInst}
@@ -35,26 +30,22 @@ use Rattle.ms_reread.proofs.Ends.{Calm}
 use Rattle.ms_reread.proofs.Pieces.{Next, behind, token_back}
 use Rattle.ms_reread.proofs.Tokens.{word_whole, label_whole, colon_calm}
 use Rattle.ms_resolve.specs.Shape.{LabelLine, InstLine, BlockLines, FuncLines, label_lines, inst_line, block_lines, func_lines as lines_in}
-use Rattle.ms_resolve.specs.Made.{Made, param_made}
 use Rattle.ms_resolve.specs.Scope.{Scope, inst_of}
-use Rattle.ms_print.specs.Numbering.{shown_name, free_after, shown_params, free_after_params, free_after_inst, free_after_insts, free_after_block}
+use Rattle.ms_print.specs.Numbering.{shown_name, free_after, shown_params, free_after_params, free_after_inst, free_after_block}
 use Rattle.ms_again.proofs.Again.{label_again}
 use Rattle.ms_again.proofs.Fine.{each_join, each_first, each_second}
 use Rattle.ms_again.proofs.Lines.{empty_fine}
-use Rattle.ms_again.proofs.Names.{shown, named_by}
 use Rattle.ms_again.proofs.Placed.{inst_sort, IsStart, inst_starts}
 use Rattle.ms_again.proofs.Quiet.{IsPrinted, printed_by}
-use Rattle.ms_again.proofs.Renaming.{renamed_inst, renamed_term}
-use Rattle.ms_again.proofs.Right.{names_in, shown_next, numbered_is}
-use Rattle.ms_again.proofs.Sites.{IsEntryBy, IsBlockBy, IsFuncBy, each_flat}
+use Rattle.ms_again.proofs.Right.{shown_next}
+use Rattle.ms_again.proofs.Sites.{IsEntryBy, IsBlockBy, IsFuncBy}
 use Rattle.ms_accepted.specs.Func.{IsWordOrNone}
 use Rattle.ms_accepted.specs.Func as words
-use Rattle.ms_resolve.specs.Faults.{IsIn}
 use Rattle.ms_valid.proofs.ListLemmas.{in_left, in_right, flat_in, map_get, in_here}
-use Rattle.ms_reprint.proofs.Lines.{Target, ren, LineOf, BlockOf, inst_line_of, insts_lines, lines_of_block, blocks_lines, insts_many, size_of, inst_less, block_less}
+use Rattle.ms_reprint.proofs.Lines.{ren, LineOf, BlockOf, insts_lines, lines_of_block, blocks_lines, insts_many, inst_less, block_less}
 use Rattle.ms_reprint.proofs.Names.{AreGiven, target_of, named_shown}
 use Rattle.ms_reprint.proofs.Said.{inst_said, term_said, define_said}
-use Rattle.ms_reprint.proofs.Built.{InstFacts, AllInsts, BlockFacts, AllBlocks}
+use Rattle.ms_reprint.proofs.Built.{AllInsts, BlockFacts, AllBlocks}
 use Rattle.ms_reprint.proofs.Faults.{Lined, func_lines, block_insts}
 use Rattle.ms_reprint.proofs.Own.{own_inst, own_label, own_block, own_blocks, own_func}
 

@@ -1,5 +1,5 @@
 -- The items of an accepted module: their lines give its names, signatures, groups and items.
-use Rattle.std.proofs.Common.{◌≡◌, ◌≤◌, ◌<◌, ◌+◌, ◌⊎◌, ℕ, zero, suc, Bool, true, false, List, [], ◌∷◌, ◌++◌, drop, Option, Some, None, length, map, refl, sym, ap, subst, ◌∙◌, inl, inr, arith}
+use Rattle.std.proofs.Common.{◌≡◌, ◌⊎◌, ℕ, zero, suc, Bool, List, [], ◌∷◌, drop, Some, length, map, refl, sym, ap, ◌∙◌, inl, inr, arith}
 use Rattle.std.specs.Prelude.{slice_get}
 use Rattle.std.specs.List.{flat_map}
 use mathlib.Core.Path.{fun_ext}
@@ -14,19 +14,16 @@ use Rattle.ms_ir.specs.declared.module.Item.TheVariants as item
 use Rattle.ms_ir.specs.declared.module.Sig.{Sig}
 use Rattle.ms_ir.specs.Func.{FuncState}
 use Rattle.ms_ir.specs.Module.{ModuleState}
-use Rattle.ms_ir.specs.Symbols.{NamesState}
-use Rattle.ms_grammar.specs.Kept.{Each}
 use Rattle.ms_grammar.specs.Form.{printed}
-use Rattle.ms_grammar.specs.Grammar.{without_name, kept_of}
+use Rattle.ms_grammar.specs.Grammar.{without_name}
 use Rattle.ms_grammar.specs.declared.line.Head.{Head}
-use Rattle.ms_grammar.specs.declared.line.Line.{Line}
 use Rattle.ms_grammar.specs.declared.line.Line.TheVariants as said
 use Rattle.ms_resolve.specs.Meaning.{effects_in, keeps_in}
-use Rattle.ms_resolve.specs.Shape.{FuncLines, ItemLines, plain, body}
+use Rattle.ms_resolve.specs.Shape.{ItemLines, plain, body}
 use Rattle.ms_resolve.specs.Scope.{Meaning, mark_of, sig_in}
-use Rattle.ms_resolve.specs.Module.{func_names_in, global_names_in, groups_of, names_of, sigs_in, items_from}
+use Rattle.ms_resolve.specs.Module.{func_names_in, global_names_in, groups_of, sigs_in, items_from}
 use Rattle.ms_print.specs.Numbering.{free_after, shown_params}
-use Rattle.ms_accepted.specs.Module.{IsHeadOf, IsDeclaredBy, IsGlobalBy, IsSaidLine, IsEnd, AreItems}
+use Rattle.ms_accepted.specs.Module.{IsHeadOf, IsDeclaredBy, IsGlobalBy, IsSaidLine, IsEnd}
 use Rattle.ms_reprint.proofs.Faults.{Lined, func_lines}
 
 -- ---- items whose functions have their lines

@@ -1,5 +1,5 @@
 -- A text whose rows say lines that may stand there is read, unless a limit is passed: whether a line or a count passes one can be told.
-use Rattle.std.proofs.Common.{◌≡◌, ◌<◌, ◌≤◌, ◌+◌, ◌⊎◌, ◌++◌, ℕ, suc, ℤ, ◌≤ℤ◌, ◌<ℤ◌, ◌-ℤ◌, pos, Bool, true, false, List, [], ◌∷◌, length, map, option_map, Option, Some, None, refl, sym, ap, subst, ◌∙◌, inl, inr, ⊎_elim, arith, append_assoc, append-nil, length-append}
+use Rattle.std.proofs.Common.{◌≡◌, ◌<◌, ◌≤◌, ◌+◌, ◌⊎◌, ◌++◌, ℕ, ℤ, ◌≤ℤ◌, ◌<ℤ◌, ◌-ℤ◌, pos, true, List, [], ◌∷◌, length, map, option_map, Some, refl, sym, ap, subst, ◌∙◌, inl, inr, ⊎_elim, arith, append_assoc}
 use Rattle.std.proofs.lemmas.Bool.{cases_lt}
 use Rattle.std.proofs.lemmas.Int.{by_lt_z}
 use Rattle.ms_grammar.specs.Kept.{Each}
@@ -13,9 +13,9 @@ use Rattle.ms_line.specs.Sorts.{sort_of}
 use Rattle.ms_line.specs.declared.sort.Sort.{Sort}
 use Rattle.ms_line.specs.declared.sort.Sort.TheVariants.{Define}
 use Rattle.ms_read.specs.Rows.{rows_of}
-use Rattle.ms_read.specs.Places.{is_outside, next_place, counted, behind, outset, AreFew, Lead}
+use Rattle.ms_read.specs.Places.{is_outside, counted, behind, outset, AreFew, Lead}
 use Rattle.ms_read.specs.Shape.{Walk}
-use Rattle.ms_read.specs.Draft.{Say, IsRead, IsTooMuch, NextIsTooMuch, IsFirstBad, IsDraft, IsModuleCause, numbered}
+use Rattle.ms_read.specs.Draft.{Say, IsRead, IsDraft, IsModuleCause, numbered}
 use Rattle.ms_read.specs.declared.place.Place.{Place}
 use Rattle.ms_read.specs.declared.place.Place.TheVariants.{Outside}
 use Rattle.ms_read.specs.declared.place.Progress.{Progress}

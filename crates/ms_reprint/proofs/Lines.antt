@@ -1,26 +1,25 @@
 -- The lines of an accepted function, under its printed names: what some line of the grammar says for each instruction, with its names renamed.
-use Rattle.std.proofs.Common.{◌≡◌, ◌≤◌, ◌<◌, ◌+◌, ◌^◌, ℕ, zero, suc, Bool, true, false, if◌then◌else◌, List, [], ◌∷◌, ◌++◌, Option, Some, None, length, map, refl, sym, ap, subst, ◌∙◌, arith, length-append}
+use Rattle.std.proofs.Common.{◌≡◌, ◌≤◌, ◌<◌, ◌+◌, ◌^◌, ℕ, suc, Bool, true, false, if◌then◌else◌, List, [], ◌∷◌, ◌++◌, length, map, refl, sym, ap, subst, ◌∙◌, arith}
 use Rattle.std.specs.Prelude.{slice_index_or}
 use Rattle.std.specs.List.{flat_map}
 use Rattle.std.specs.Option.{is_some}
 use Rattle.ms_ir.specs.declared.names.Name.{Name}
-use Rattle.ms_ir.specs.declared.names.Name.TheVariants.{Word, Number, Absent}
+use Rattle.ms_ir.specs.declared.names.Name.TheVariants.{Absent}
 use Rattle.ms_ir.specs.declared.names.Param.{Param}
 use Rattle.ms_ir.specs.Func.{Placed, Block, FuncState}
 use Rattle.ms_ir.specs.Module.{ModuleState}
 use Rattle.ms_grammar.specs.Kept.{Each}
 use Rattle.ms_grammar.specs.declared.line.Head.{Head}
-use Rattle.ms_grammar.specs.declared.line.RawInst.{RawInst}
-use Rattle.ms_resolve.specs.Shape.{LabelLine, InstLine, BlockLines, FuncLines, HasLabel, HasBlocks}
-use Rattle.ms_resolve.specs.Made.{Made, makes, param_made, inst_made, label_made, block_made, made_in, named_in, locals_of, blocks_of}
+use Rattle.ms_resolve.specs.Shape.{InstLine, BlockLines, FuncLines, HasLabel, HasBlocks}
+use Rattle.ms_resolve.specs.Made.{Made, makes, param_made, inst_made, block_made, made_in, named_in, locals_of, blocks_of}
 use Rattle.ms_resolve.specs.Scope.{Scope, number_of_name}
 use Rattle.ms_print.specs.Numbering.{shown_name, free_after, shown_params, free_after_params, free_after_inst, free_after_insts, free_after_block}
 use Rattle.ms_accepted.specs.Func.{IsSaidInst, IsSaidTerm}
 use Rattle.ms_again.proofs.Renaming.{Renaming, renamed_inst, renamed_term}
-use Rattle.ms_again.proofs.Names.{shown, named_by, free_by, locals_in, blocks_in, label_name, params_free}
+use Rattle.ms_again.proofs.Names.{shown, named_by, free_by, locals_in, blocks_in, params_free}
 use Rattle.ms_again.proofs.Again.{label_again}
 use Rattle.ms_again.proofs.Right.{names_in, shown_next}
-use Rattle.ms_again.proofs.AgainNames.{AreAgain, IsAgain, again_join, keys_again, locals_keyed, blocks_keyed, names_keyed, locals_by_key, blocks_by_key, name_by_key, key_of, label_named, label_block, params_again, params_next, params_less, makes_again, made_as, one_again, one_next, one_less, label_is_again, free_join}
+use Rattle.ms_again.proofs.AgainNames.{AreAgain, IsAgain, again_join, keys_again, locals_keyed, blocks_keyed, names_keyed, locals_by_key, blocks_by_key, name_by_key, label_named, label_block, params_again, params_next, params_less, makes_again, made_as, one_again, one_next, one_less, label_is_again, free_join}
 
 -- ---- what a function makes
 

@@ -4,7 +4,6 @@ use Rattle.std.specs.Prelude.{slice_get, slice_index_or, filter}
 use Rattle.std.specs.List.{flat_map}
 use Rattle.std.specs.Option.{is_some}
 use Rattle.std.proofs.lemmas.List.{length-map}
-use Rattle.ms_lex.specs.Kinds.{is_word}
 use Rattle.ms_ir.specs.declared.names.Name.{Name}
 use Rattle.ms_ir.specs.declared.names.Name.TheVariants.{Word, Number, Absent}
 use Rattle.ms_ir.specs.declared.names.LocalNo.{LocalNo}
@@ -12,16 +11,15 @@ use Rattle.ms_ir.specs.declared.names.Param.{Param}
 use Rattle.ms_ir.specs.Func.{Placed, Block, FuncState}
 use Rattle.ms_grammar.specs.Kept.{Each}
 use Rattle.ms_grammar.specs.Fits.{IsNamed}
-use Rattle.ms_resolve.specs.Made.{Made, param_made, is_same_name, name_of_made}
+use Rattle.ms_resolve.specs.Made.{Made, param_made, name_of_made}
 use Rattle.ms_resolve.specs.Scope.{number_of_name}
 use Rattle.ms_resolve.specs.Faults.{IsIn}
-use Rattle.ms_resolve.proofs.Members.{Among, among_in, in_among}
-use Rattle.ms_print.specs.Numbering.{numbered, shown_name, free_after}
+use Rattle.ms_resolve.proofs.Members.{Among, among_in}
+use Rattle.ms_print.specs.Numbering.{shown_name, free_after}
 use Rattle.ms_accepted.specs.Func.{name_of_param, name_of_inst, names_of_block, IsWordOrNone}
 use Rattle.ms_accepted.specs.Func as words
 use Rattle.ms_again.specs.Ordered.{number_in, result_of, results_of, results_in, local_at}
-use Rattle.ms_again.proofs.Fine.{each_join, each_first, each_second}
-use Rattle.ms_again.proofs.Names.{Naming, shown, named_by, locals_in, blocks_in, locals_append, blocks_append}
+use Rattle.ms_again.proofs.Names.{shown, named_by, locals_in, blocks_in, locals_append, blocks_append}
 use Rattle.ms_again.proofs.AgainNames.{made_as}
 use Rattle.ms_again.proofs.Right.{AreApart, apart_number, apart_some, named_same, names_in, numbered_is, number_new, shown_next}
 use Rattle.ms_again.proofs.Sites.{each_at}

@@ -1,16 +1,13 @@
 -- What is printed for the lines of an accepted function are these lines, with an empty one before each label line but the first block's.
-use Rattle.std.proofs.Common.{◌≡◌, ◌≤◌, ◌<◌, ◌+◌, ◌^◌, ℕ, zero, suc, Bool, true, false, if◌then◌else◌, List, [], ◌∷◌, ◌++◌, Option, Some, None, length, map, refl, sym, ap, subst, ◌∙◌, arith}
+use Rattle.std.proofs.Common.{◌≡◌, ◌≤◌, ◌<◌, ◌+◌, ◌^◌, ℕ, suc, Bool, true, false, if◌then◌else◌, List, [], ◌∷◌, ◌++◌, Option, Some, None, length, map, refl, sym, ap, ◌∙◌, arith}
 use Rattle.std.specs.Prelude.{slice_index_or}
-use Rattle.std.specs.List.{flat_map}
 use Rattle.std.specs.Option.{is_some}
-use Rattle.ms_ir.specs.declared.names.Ty.{Ty}
 use Rattle.ms_ir.specs.declared.names.Name.{Name}
 use Rattle.ms_ir.specs.declared.names.Name.TheVariants.{Word, Number, Absent}
 use Rattle.ms_ir.specs.declared.names.Param.{Param}
 use Rattle.ms_ir.specs.Func.{Placed, Block, FuncState}
 use Rattle.ms_ir.specs.Module.{ModuleState}
 use Rattle.ms_grammar.specs.Kept.{Each}
-use Rattle.ms_grammar.specs.declared.line.Head.{Head}
 use Rattle.ms_grammar.specs.declared.line.Line.{Line}
 use Rattle.ms_grammar.specs.declared.line.Line.TheVariants as said
 use Rattle.ms_grammar.specs.declared.line.RawVal.{RawVal}
@@ -22,18 +19,17 @@ use Rattle.ms_grammar.specs.declared.line.RawInst.TheVariants.{Alloca, Gep, Load
 use Rattle.ms_grammar.specs.declared.line.RawTerm.{RawTerm}
 use Rattle.ms_grammar.specs.declared.line.RawTerm.TheVariants.{Br, CondBr, Ret, Unreachable}
 use Rattle.ms_resolve.specs.Shape.{LabelLine, InstLine, BlockLines, FuncLines}
-use Rattle.ms_resolve.specs.Made.{Made, makes, made_in, named_in, locals_of, blocks_of, full_name, free_behind}
+use Rattle.ms_resolve.specs.Made.{Made, made_in, locals_of, blocks_of}
 use Rattle.ms_resolve.specs.Scope.{Scope, number_of_name}
 use Rattle.ms_resolve.specs.Used.{values_of, term_values, inst_blocks, term_blocks, arg_value, entry_value, entry_block}
-use Rattle.ms_print.specs.Numbering.{numbered, shown_name, free_after, shown_params, free_after_params, free_after_inst, free_after_insts, free_after_block}
+use Rattle.ms_print.specs.Numbering.{shown_name, free_after, shown_params, free_after_params, free_after_inst, free_after_insts, free_after_block}
 use Rattle.ms_again.proofs.Renaming.{Renaming, renamed_val, renamed_arg, renamed_entry, renamed_inst, renamed_term}
-use Rattle.ms_again.proofs.Again.{renaming, inst_said, insts_said, first_said, label_said, block_said, blocks_said, start, func_said, label_again}
+use Rattle.ms_again.proofs.Again.{renaming, inst_said, insts_said, label_said, block_said, blocks_said, start, func_said, label_again}
 use Rattle.ms_again.proofs.AgainNames.{AreAgain, IsAgain, key_of, locals_by_key, blocks_by_key, locals_keyed, blocks_keyed, label_is_again}
-use Rattle.ms_again.proofs.Fine.{made_name}
-use Rattle.ms_again.proofs.Names.{shown, named_by, locals_in, blocks_in, locals_listed, blocks_listed, locals_by, blocks_by, label_name, params_free, inst_free, insts_free, block_free}
+use Rattle.ms_again.proofs.Names.{shown, named_by, locals_listed, blocks_listed, locals_by, blocks_by, label_name, params_free, inst_free, insts_free, block_free}
 use Rattle.ms_again.proofs.Right.{numbered_is, shown_next}
-use Rattle.ms_reprint.proofs.Lines.{Target, ren, LineOf, BlockOf, inst_line_of, insts_lines, lines_of_block, blocks_lines, lines_of, things, insts_many, size_of, inst_less, insts_less, block_less, makes_as, func_made_as, locals_are, blocks_are}
-use Rattle.ms_reprint.proofs.Names.{AreGiven, target_of, IsThere, is_there, things_size}
+use Rattle.ms_reprint.proofs.Lines.{Target, ren, LineOf, BlockOf, inst_line_of, insts_lines, lines_of_block, blocks_lines, things, insts_many, inst_less, block_less, makes_as, func_made_as, locals_are, blocks_are}
+use Rattle.ms_reprint.proofs.Names.{target_of, is_there, things_size}
 use Rattle.ms_reprint.proofs.Said.{IsKnownVal, IsKnownBlock, IsKnownUse}
 use Rattle.ms_reprint.proofs.Built.{InstFacts, AllInsts, BlockFacts, AllBlocks}
 use Rattle.ms_reprint.proofs.Faults.{Lined, func_lines}

@@ -1,13 +1,11 @@
 -- The parts of a function in order: what stands at each place, and what each instruction uses.
-use Rattle.std.proofs.Common.{◌≡◌, ◌<◌, ◌≤◌, ◌+◌, ◌&&◌, ◌+ℤ◌, ℕ, zero, suc, ℤ, Bool, true, false, if◌then◌else◌, List, [], ◌∷◌, ◌++◌, length, map, filter, cond, Option, Some, None, refl, sym, ap, subst, ◌∙◌, inl, inr, arith}
-use Rattle.std.specs.Prelude.{Contains, slice_get, slice_index_or}
-use Rattle.std.specs.List.{flat_map, list_all}
-use Rattle.std.specs.Option.{option_map}
+use Rattle.std.proofs.Common.{◌≡◌, ◌<◌, ◌+◌, ◌&&◌, ◌+ℤ◌, ℕ, zero, suc, ℤ, Bool, true, false, List, [], ◌∷◌, length, map, filter, cond, Option, Some, None, refl, sym, ap, subst, ◌∙◌, arith}
+use Rattle.std.specs.Prelude.{Contains, slice_get}
+use Rattle.std.specs.List.{list_all}
 use Rattle.ms_ir.specs.declared.names.Ty.{Ty}
 use Rattle.ms_ir.specs.declared.names.Ty.TheVariants.{Ptr}
 use Rattle.ms_ir.specs.declared.names.LocalNo.{LocalNo}
 use Rattle.ms_ir.specs.declared.inst.Val.{Val}
-use Rattle.ms_ir.specs.declared.inst.Val.TheVariants.{Num, Local, Global}
 use Rattle.ms_ir.specs.declared.inst.Arg.{Arg}
 use Rattle.ms_ir.specs.declared.inst.Entry.{Entry}
 use Rattle.ms_ir.specs.declared.inst.IndexTerm.{IndexTerm}
@@ -16,15 +14,14 @@ use Rattle.ms_ir.specs.declared.inst.Inst.TheVariants.{Alloca, Gep, Step, Load, 
 use Rattle.ms_ir.specs.declared.inst.Term.{Term}
 use Rattle.ms_ir.specs.declared.inst.Term.TheVariants.{Br, CondBr, Ret, Unreachable}
 use Rattle.ms_ir.specs.Inst.{result_type}
-use Rattle.ms_ir.specs.Func.{Placed, Block, FuncState, insts_at, no_block}
+use Rattle.ms_ir.specs.Func.{Placed, Block, FuncState, insts_at}
 use Rattle.ms_ir.specs.Graph.{successors}
 use Rattle.ms_ir.specs.Types.{is_alloca, is_phi, has_entry, is_indexed, types_stand, term_stands}
 use Rattle.ms_ir.specs.Uses.{Operand, Use, of_type, arg_operand, index_operand, entry_operand, operands_of, term_operands, used_at, entry_use, uses_at, term_uses_at}
 use Rattle.ms_ir.specs.Edits.{term_at}
 use Rattle.ms_resolve.specs.Faults.{IsIn}
 use Rattle.ms_valid.proofs.ListLemmas.{in_here, flat_in}
-use Rattle.ms_again.specs.Same.{own_name}
-use Rattle.ms_again.specs.Ordered.{is_open, added_in, step_of, arg_by, index_by, entry_by, inst_by, given_by, term_by, number_in, result_of, results_of, results_in, ordered_local, ordered_val, ordered_inst, ordered_insts, ordered_blocks}
+use Rattle.ms_again.specs.Ordered.{is_open, added_in, step_of, arg_by, index_by, entry_by, inst_by, term_by, number_in, result_of, results_of, results_in, ordered_val, ordered_inst, ordered_insts, ordered_blocks}
 
 -- ---- places
 

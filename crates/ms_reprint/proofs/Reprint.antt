@@ -1,5 +1,5 @@
 -- An accepted module that is printed within the limits is read again.
-use Rattle.std.proofs.Common.{◌≡◌, ◌≤◌, ◌<◌, ◌+◌, ◌^◌, ◌⊎◌, ℕ, zero, suc, Bool, true, false, List, [], ◌∷◌, ◌++◌, Option, Some, None, length, map, refl, sym, ap, subst, ◌∙◌, inl, inr, arith, length-append}
+use Rattle.std.proofs.Common.{◌≡◌, ◌≤◌, ◌<◌, ◌^◌, ℕ, suc, Bool, true, false, List, [], ◌∷◌, ◌++◌, Option, Some, None, length, map, refl, sym, ap, subst, ◌∙◌, inl, inr, arith, length-append}
 use Rattle.std.specs.Prelude.{slice_get}
 use Rattle.std.specs.List.{flat_map}
 use Rattle.std.proofs.lemmas.List.{map-append}
@@ -15,7 +15,7 @@ use Rattle.ms_ir.specs.Module.{ModuleState, body_in, body_of}
 use Rattle.ms_ir.specs.Symbols.{NamesState}
 use Rattle.ms_paths.specs.Flow.{Block as Run, IsReducible}
 use Rattle.ms_grammar.specs.Kept.{Each}
-use Rattle.ms_grammar.specs.Grammar.{Says, without_name, kept_of}
+use Rattle.ms_grammar.specs.Grammar.{without_name, kept_of}
 use Rattle.ms_grammar.specs.Form.{printed}
 use Rattle.ms_grammar.specs.Limits.{IsWithinLimits}
 use Rattle.ms_grammar.specs.declared.line.Head.{Head}
@@ -25,34 +25,31 @@ use Rattle.ms_line.specs.Sorts.{sort_of}
 use Rattle.ms_line.specs.declared.sort.Sort.{Sort}
 use Rattle.ms_line.specs.declared.sort.Sort.TheVariants as sort
 use Rattle.ms_read.specs.Rows.{rows_of}
-use Rattle.ms_read.specs.Places.{is_outside, is_blank, behind, outset, Lead}
+use Rattle.ms_read.specs.Places.{is_outside, is_blank, outset, Lead}
 use Rattle.ms_read.specs.Shape.{Walk}
 use Rattle.ms_read.specs.Draft.{IsModuleCause}
-use Rattle.ms_read.specs.Told.{IsSaid, IsPlaced, sorts_of}
-use Rattle.ms_read.specs.declared.place.Place.{Place}
+use Rattle.ms_read.specs.Told.{IsSaid, sorts_of}
 use Rattle.ms_read.specs.declared.place.Place.TheVariants.{Outside}
 use Rattle.ms_read.specs.declared.place.Progress.{Progress}
 use Rattle.ms_read.specs.declared.fault.ReadFault.TheVariants.{Limit}
 use Rattle.ms_resolve.specs.Meaning.{effects_in, keeps_in}
-use Rattle.ms_resolve.specs.Shape.{LabelLine, InstLine, BlockLines, FuncLines, ItemLines, plain, body, label_lines, inst_line, block_lines, func_lines as lines_in, item_lines, IsItem}
-use Rattle.ms_resolve.specs.Scope.{Meaning}
-use Rattle.ms_resolve.specs.Module.{groups_of, funcs_of, module_of}
-use Rattle.ms_resolve.specs.Faults.{IsIn}
+use Rattle.ms_resolve.specs.Shape.{LabelLine, InstLine, BlockLines, FuncLines, label_lines, inst_line, block_lines, func_lines as lines_in, item_lines, IsItem}
+use Rattle.ms_resolve.specs.Module.{groups_of, funcs_of}
 use Rattle.ms_valid.specs.Cause.{IsAccepted, HasNone}
-use Rattle.ms_valid.specs.Faults.{IsBody, IsIrreducible, bodies_there, body_there}
+use Rattle.ms_valid.specs.Faults.{IsIrreducible, body_there}
 use Rattle.ms_valid.proofs.ListLemmas.{get_map, flat_in, in_here}
 use Rattle.ms_print.specs.Numbering.{shown_params, free_after_params}
 use Rattle.ms_print.specs.Lines.{Shown, shown_in, inst_line as placed_line, term_line}
-use Rattle.ms_print.specs.Text.{ended, line_text, insts_text, label_text, block_text, blocks_text, func_text, no_notes, body_text, item_text, has_body, gap, items_text, module_text}
+use Rattle.ms_print.specs.Text.{ended, line_text, insts_text, label_text, block_text, blocks_text, func_text, no_notes, body_text, gap, items_text, module_text}
 use Rattle.ms_print.proofs.NumberingLemmas.{shown_params-length}
 use Rattle.ms_accepted.specs.Module.{IsSaidLine, AreItems, IsAcceptedModule}
-use Rattle.ms_again.specs.Again.{IsReadAgain, IsReadInOrder}
+use Rattle.ms_again.specs.Again.{IsReadInOrder}
 use Rattle.ms_again.specs.Basis.{IsBasis}
-use Rattle.ms_again.specs.Ordered.{ordered, IsSameInOrder}
+use Rattle.ms_again.specs.Ordered.{ordered}
 use Rattle.ms_again.proofs.Again.{gap_said, func_said as said_of, items_said}
 use Rattle.ms_again.proofs.Carried.{graph_alike}
 use Rattle.ms_again.proofs.Draft.{define_long, text_printed}
-use Rattle.ms_again.proofs.Fine.{each_join, each_first, each_second}
+use Rattle.ms_again.proofs.Fine.{each_join}
 use Rattle.ms_again.proofs.InOrder.{same_text}
 use Rattle.ms_again.proofs.Known.{IsSound, IsItemBy}
 use Rattle.ms_again.proofs.Lines.{empty_fine, rows_are}
@@ -60,18 +57,18 @@ use Rattle.ms_again.proofs.Placed.{blank_stays, inst_starts, IsStart}
 use Rattle.ms_again.proofs.Printed.{rows_text}
 use Rattle.ms_again.proofs.Quiet.{IsPrinted, kept_printed}
 use Rattle.ms_again.proofs.ReadAgain.{items_again_read, read_in_order}
-use Rattle.ms_again.proofs.Sites.{IsEntryBy, IsBlockBy, IsFuncBy, each_at, each_flat, built, bodies_built}
+use Rattle.ms_again.proofs.Sites.{IsEntryBy, IsBlockBy, IsFuncBy, each_flat, built, bodies_built}
 use Rattle.ms_edited.proofs.Shape.{PartIsReducible}
 use Rattle.ms_reprint.specs.Rows.{AreSaid}
-use Rattle.ms_reprint.proofs.Limits.{AreWithin, are_within}
+use Rattle.ms_reprint.proofs.Limits.{are_within}
 use Rattle.ms_reprint.proofs.Lines.{insts_many, size_of, has_blocks}
 use Rattle.ms_reprint.proofs.Names.{target_of, are_given}
 use Rattle.ms_reprint.proofs.Sound.{in_order}
 use Rattle.ms_reprint.proofs.Faults.{Lined, func_lines, lined}
 use Rattle.ms_reprint.proofs.Own.{own_inst, own_label, own_block, own_blocks, own_func, own_is}
 use Rattle.ms_reprint.proofs.Func.{func_said, each_own, func_walk, walk_join}
-use Rattle.ms_reprint.proofs.Items.{LinedBy, AreLined, bare, items_of, groups_are}
-use Rattle.ms_reprint.proofs.Whole.{all_items, no_room, module_by, same_in_order, OfBody, of_body, no_name_faults, no_type_faults, no_edge_faults, no_order_faults}
+use Rattle.ms_reprint.proofs.Items.{AreLined, bare, items_of, groups_are}
+use Rattle.ms_reprint.proofs.Whole.{all_items, no_room, module_by, same_in_order, of_body, no_name_faults, no_type_faults, no_edge_faults, no_order_faults}
 
 -- ---- a function takes a byte for each thing that it makes
 

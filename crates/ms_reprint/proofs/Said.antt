@@ -1,7 +1,6 @@
 -- Rows say the lines of an accepted function under its printed names.
-use Rattle.std.proofs.Common.{◌≡◌, ◌≤◌, ◌<◌, ◌+◌, ◌&&◌, ℕ, zero, suc, Bool, true, false, cond, if◌then◌else◌, nat_lt, ◌==◌, List, [], ◌∷◌, ◌++◌, Option, Some, None, length, map, refl, sym, ap, subst, ◌∙◌, inl, inr, ⊎_elim, arith, tests, eqb-true, eq-eqb}
+use Rattle.std.proofs.Common.{◌≡◌, ◌≤◌, ◌<◌, ◌+◌, ℕ, zero, suc, Bool, true, false, cond, if◌then◌else◌, nat_lt, ◌==◌, List, [], ◌∷◌, ◌++◌, Some, None, length, map, refl, sym, ap, subst, ◌∙◌, inl, inr, ⊎_elim, arith, tests, eq-eqb}
 use Rattle.std.specs.Prelude.{slice_get, slice_index_or, filter, Contains}
-use Rattle.std.specs.List.{flat_map}
 use Rattle.std.specs.Option.{is_some}
 use Rattle.std.proofs.lemmas.Bool.{cases_lt}
 use Rattle.std.proofs.lemmas.Option.{slice_get_within}
@@ -14,26 +13,21 @@ use Rattle.ms_ir.specs.declared.names.Ty.{Ty}
 use Rattle.ms_ir.specs.declared.names.LocalNo.{LocalNo}
 use Rattle.ms_ir.specs.declared.inst.Val.{Val}
 use Rattle.ms_ir.specs.declared.inst.Val.TheVariants as val
-use Rattle.ms_ir.specs.declared.inst.Arg.{Arg}
 use Rattle.ms_ir.specs.declared.inst.Entry.{Entry}
-use Rattle.ms_ir.specs.declared.inst.Inst.{Inst}
 use Rattle.ms_ir.specs.declared.inst.Inst.TheVariants as inst
-use Rattle.ms_ir.specs.declared.inst.Term.{Term}
-use Rattle.ms_ir.specs.Func.{Placed, Block, FuncState, insts_at, no_block}
+use Rattle.ms_ir.specs.Func.{Placed, Block, FuncState, no_block}
 use Rattle.ms_ir.specs.Graph.{graph_of, successors}
-use Rattle.ms_ir.specs.Locals.{HasType, IsNumbered}
+use Rattle.ms_ir.specs.Locals.{HasType}
 use Rattle.ms_ir.specs.Module.{ModuleState}
 use Rattle.ms_ir.specs.Uses.{Operand, arg_operand, entry_operand, operands_of, term_operands}
 use Rattle.ms_ir.specs.Sound.{HasBadEntries, edges_between, times_in, from_of}
-use Rattle.ms_ir.specs.SoundFunc.{IsValueIn, AreValues, IsSoundInst, IsSoundTerm, IsSoundFunc}
-use Rattle.ms_ir.specs.Edits.{term_at}
+use Rattle.ms_ir.specs.SoundFunc.{IsValueIn, AreValues, IsSoundInst, IsSoundTerm}
 use Rattle.ms_grammar.specs.Kept.{Each}
 use Rattle.ms_grammar.specs.Grammar.{Says, without_name}
 use Rattle.ms_grammar.specs.Form.{name_text, param_parts, dots_parts}
 use Rattle.ms_grammar.specs.Fits.{IsNamed, IsParam}
 use Rattle.ms_grammar.specs.declared.keyword.Keyword.TheVariants as word
 use Rattle.ms_grammar.specs.declared.line.Head.{Head}
-use Rattle.ms_grammar.specs.declared.line.Line.{Line}
 use Rattle.ms_grammar.specs.declared.line.Line.TheVariants as said
 use Rattle.ms_grammar.specs.declared.line.RawVal.{RawVal}
 use Rattle.ms_grammar.specs.declared.line.RawVal.TheVariants.{Num, Local, Global}
@@ -43,23 +37,22 @@ use Rattle.ms_grammar.specs.declared.line.RawInst.{RawInst}
 use Rattle.ms_grammar.specs.declared.line.RawInst.TheVariants.{Alloca, Gep, Load, Store, Copy, Call, Bin, Cmp, Select, Cast, Phi}
 use Rattle.ms_grammar.specs.declared.line.RawTerm.{RawTerm}
 use Rattle.ms_grammar.specs.declared.line.RawTerm.TheVariants.{Br, CondBr, Ret, Unreachable}
-use Rattle.ms_resolve.specs.Made.{makes}
-use Rattle.ms_resolve.specs.Scope.{Scope, number_of_name, number_of_word, value_of, arg_of, args_of, entry_of, inst_of, term_of, keeps_at, behind_first, marks_of, sig_of}
+use Rattle.ms_resolve.specs.Scope.{Scope, number_of_name, number_of_word, value_of, args_of, entry_of, inst_of, term_of, behind_first, marks_of, sig_of}
 use Rattle.ms_resolve.specs.Used.{values_of, term_values, inst_blocks, term_blocks, arg_value, entry_value, entry_block}
 use Rattle.ms_resolve.specs.Faults.{IsIn}
 use Rattle.ms_valid.proofs.ListLemmas.{get_map, map_get}
 use Rattle.ms_reread.proofs.Values.{EachBack}
 use Rattle.ms_reread.proofs.Pieces.{Back, behind}
 use Rattle.ms_again.specs.Ordered.{results_in, place_in, local_at}
-use Rattle.ms_again.proofs.Fine.{IsFitVal, IsFitBlock, inst_printed, term_printed, made_name}
+use Rattle.ms_again.proofs.Fine.{IsFitVal, IsFitBlock, inst_printed, term_printed}
 use Rattle.ms_again.proofs.InOrder.{place_less}
 use Rattle.ms_again.proofs.Quiet.{IsPrinted, printed_by}
 use Rattle.ms_again.proofs.Renamed.{param_back, head_back, each_dots, brace_next}
-use Rattle.ms_again.proofs.Renaming.{Renaming, renamed_inst, renamed_term}
-use Rattle.ms_again.proofs.Sites.{each_at, at_each}
+use Rattle.ms_again.proofs.Renaming.{renamed_inst, renamed_term}
+use Rattle.ms_again.proofs.Sites.{each_at}
 use Rattle.ms_reprint.proofs.Parts.{given_in}
-use Rattle.ms_reprint.proofs.Lines.{Target, ren, LineOf, inst_line_of}
-use Rattle.ms_reprint.proofs.Names.{AreGiven, target_of, IsThere, is_there}
+use Rattle.ms_reprint.proofs.Lines.{Target, ren, LineOf}
+use Rattle.ms_reprint.proofs.Names.{AreGiven, target_of, is_there}
 
 -- ---- the values of a line are those of its instruction
 
@@ -118,6 +111,7 @@ local_less f l ty (inr (b, k, x, gives, is)) = by (nat_lt l.0 (length f.params))
   where
     on : IsIn (results_in f.blocks) l.0
     on = given_in f.blocks b k x l gives.found gives.gives
+
     by : (t : Bool) → nat_lt l.0 (length f.params) ≡ t → local_at (length f.params) (results_in f.blocks) l.0 < length f.params + length (results_in f.blocks)
     by true t = let less : l.0 < length f.params = grind (arith, tests) in let stays = ap (λ (b : Bool). if b then l.0 else length f.params + place_in (results_in f.blocks) l.0) t in omega arith
     by false t =

@@ -1,35 +1,32 @@
 -- A sound function is sound in order.
-use Rattle.std.proofs.Common.{◌≡◌, ◌<◌, ◌≤◌, ◌+◌, ◌⊎◌, ℕ, zero, suc, Bool, true, false, if◌then◌else◌, nat_lt, List, [], ◌∷◌, length, map, filter, Option, Some, None, refl, sym, ap, subst, ◌∙◌, inl, inr, arith, tests, ltb-true}
-use Rattle.std.specs.Prelude.{◌≢◌, Contains, slice_get}
+use Rattle.std.proofs.Common.{◌≡◌, ◌<◌, ◌+◌, ℕ, zero, suc, Bool, true, false, if◌then◌else◌, nat_lt, List, [], ◌∷◌, length, map, filter, Option, Some, None, refl, sym, ap, subst, ◌∙◌, inl, inr, arith, tests}
+use Rattle.std.specs.Prelude.{Contains, slice_get}
 use Rattle.std.specs.Option.{option_map}
 use Rattle.std.proofs.lemmas.Option.{slice_get_within}
 use Rattle.ms_paths.specs.Flow.{block_at, HasEdge, IsMet, IsClosed, IsReducible}
 use Rattle.ms_ir.specs.declared.names.Ty.{Ty}
-use Rattle.ms_ir.specs.declared.names.Param.{Param}
 use Rattle.ms_ir.specs.declared.names.LocalNo.{LocalNo}
 use Rattle.ms_ir.specs.declared.inst.Val.{Val}
 use Rattle.ms_ir.specs.declared.inst.Val.TheVariants.{Num, Local, Global}
 use Rattle.ms_ir.specs.declared.inst.Entry.{Entry}
-use Rattle.ms_ir.specs.declared.inst.IndexTerm.{IndexTerm}
 use Rattle.ms_ir.specs.declared.inst.Inst.{Inst}
 use Rattle.ms_ir.specs.declared.inst.Inst.TheVariants.{Alloca, Gep, Step, Load, Store, Copy, Call, Bin, Cmp, Select, Cast, Phi}
 use Rattle.ms_ir.specs.declared.inst.Term.{Term}
-use Rattle.ms_ir.specs.Inst.{result_type}
 use Rattle.ms_ir.specs.Func.{Placed, Block, FuncState, insts_at}
 use Rattle.ms_ir.specs.Graph.{graph_of, successors}
 use Rattle.ms_ir.specs.Locals.{IsNumbered, IsGiver, HasType}
 use Rattle.ms_ir.specs.Types.{is_phi}
 use Rattle.ms_ir.specs.Uses.{Operand, Use, operands_of, term_operands, uses_at, term_uses_at}
-use Rattle.ms_ir.specs.Sound.{IsPathBefore, IsUsedBefore, LeadsToFirst, HasOtherEdges, HasTwoValues, HasBadEntries, edges_between, times_in, from_of}
+use Rattle.ms_ir.specs.Sound.{IsUsedBefore, HasTwoValues, HasBadEntries, edges_between, times_in, from_of}
 use Rattle.ms_ir.specs.SoundFunc.{IsValueIn, AreValues, AreBehind, IsAmongPhis, IsSoundInst, IsSoundTerm, IsSoundFunc}
 use Rattle.ms_ir.specs.Edits.{term_at}
 use Rattle.ms_valid.proofs.ListLemmas.{get_map, map_get}
 use Rattle.ms_edited.proofs.Shape.{PartIsReducible, path_within}
 use Rattle.ms_edited.proofs.OnPaths.{StandsOn, met_stands, stands_met}
 use Rattle.ms_again.specs.Same.{plain_param}
-use Rattle.ms_again.specs.Ordered.{place_in, local_at, ordered, ordered_local, ordered_val, ordered_inst, ordered_blocks, results_in, inst_by, entry_by, term_by, step_of, joined, is_open, index_by, added_in}
+use Rattle.ms_again.specs.Ordered.{place_in, ordered, ordered_local, ordered_val, ordered_inst, results_in, inst_by, entry_by, term_by}
 use Rattle.ms_again.proofs.InOrder.{one_local}
-use Rattle.ms_reprint.proofs.Parts.{From, at_from, at_to, at_size, blocks_size, term_in_order, FromBlock, block_from, given_in, same_targets, same_stands, operand_by, term_operands_by, same_result, same_form, back_map, FromOperand, from_mapped, operands_by, FromUse, use_by, uses_by, term_uses_by}
+use Rattle.ms_reprint.proofs.Parts.{From, at_from, at_to, blocks_size, term_in_order, block_from, given_in, same_targets, same_stands, term_operands_by, same_result, same_form, FromOperand, from_mapped, operands_by, FromUse, use_by, uses_by, term_uses_by}
 
 -- ---- locals
 

@@ -1,9 +1,8 @@
 -- A function in order is in order.
-use Rattle.std.proofs.Common.{◌≡◌, ◌≤◌, ◌<◌, ◌+◌, ◌==◌, ◌+ℤ◌, ℕ, zero, suc, ℤ, pos, Bool, true, false, cond, if◌then◌else◌, nat_lt, List, [], ◌∷◌, ◌++◌, Option, Some, None, option_map, filter, length, map, refl, sym, ap, subst, ◌∙◌, arith, tests}
+use Rattle.std.proofs.Common.{◌≡◌, ◌≤◌, ◌<◌, ◌+◌, ◌==◌, ◌+ℤ◌, ℕ, suc, ℤ, pos, Bool, true, false, cond, if◌then◌else◌, nat_lt, List, [], ◌∷◌, ◌++◌, Option, Some, None, option_map, filter, length, map, refl, sym, ap, ◌∙◌, arith, tests}
 use Rattle.std.specs.List.{flat_map}
 use Rattle.std.proofs.lemmas.Int.{ints}
 use Rattle.std.proofs.lemmas.List.{length-map, map-append}
-use Rattle.ms_ir.specs.declared.names.Ty.{Ty}
 use Rattle.ms_ir.specs.declared.names.Name.{Name}
 use Rattle.ms_ir.specs.declared.names.LocalNo.{LocalNo}
 use Rattle.ms_ir.specs.declared.names.Param.{Param}
@@ -19,7 +18,7 @@ use Rattle.ms_ir.specs.declared.inst.Term.TheVariants.{Br, CondBr, Ret, Unreacha
 use Rattle.ms_ir.specs.Func.{Placed, Block, FuncState}
 use Rattle.ms_grammar.specs.Kept.{Each}
 use Rattle.ms_again.specs.Same.{own_name, plain_param}
-use Rattle.ms_again.specs.Ordered.{added_by, added_in, is_number, is_open, step_of, joined, arg_by, index_by, entry_by, inst_by, given_by, term_by, number_in, result_of, results_of, results_in, place_in, local_at, ordered_local, ordered_val, ordered_inst, ordered_insts, ordered_blocks, insts_count, ordered}
+use Rattle.ms_again.specs.Ordered.{added_by, added_in, is_number, is_open, step_of, arg_by, index_by, entry_by, inst_by, term_by, number_in, result_of, results_of, results_in, place_in, local_at, ordered_local, ordered_val, ordered_inst, ordered_insts, ordered_blocks, insts_count, ordered}
 use Rattle.ms_again.proofs.Carried.{AreAlike}
 use Rattle.ms_again.proofs.InOrder.{IsTold, told}
 use Rattle.ms_again.proofs.Ordered.{own_twice, params_twice, ordered_plain}

@@ -1,5 +1,5 @@
 -- A function that is an accepted one in order, but for its names, has no fault in its types, its edges or the order of uses.
-use Rattle.std.proofs.Common.{◌≡◌, ◌⊎◌, ◌+ℤ◌, ℕ, zero, suc, ℤ, List, [], ◌∷◌, Option, Some, None, map, filter, refl, sym, ap, subst, ◌∙◌, inl, inr, ⊎_elim}
+use Rattle.std.proofs.Common.{◌≡◌, ◌+ℤ◌, ℕ, ℤ, List, [], ◌∷◌, Option, Some, None, map, filter, refl, sym, ap, subst, ◌∙◌, inl, inr, ⊎_elim}
 use Rattle.std.specs.Prelude.{◌≢◌, Contains, slice_get}
 use Rattle.std.specs.List.{flat_map}
 use Rattle.ms_ir.specs.declared.names.Ty.{Ty}
@@ -11,16 +11,16 @@ use Rattle.ms_ir.specs.declared.inst.Term.{Term}
 use Rattle.ms_ir.specs.declared.inst.Term.TheVariants.{Br, CondBr, Ret, Unreachable}
 use Rattle.ms_ir.specs.Func.{Placed, Block, FuncState, insts_at}
 use Rattle.ms_ir.specs.Module.{ModuleState}
-use Rattle.ms_ir.specs.Uses.{Operand, Use, operands_of, term_operands, uses_at, term_uses_at}
-use Rattle.ms_ir.specs.Sound.{HasOtherType, HasBadEntries, LeadsToFirst, IsUsedBefore}
-use Rattle.ms_ir.specs.SoundFunc.{IsSoundInst, IsSoundTerm, IsSoundFunc}
+use Rattle.ms_ir.specs.Uses.{operands_of, term_operands, uses_at, term_uses_at}
+use Rattle.ms_ir.specs.Sound.{HasBadEntries, LeadsToFirst}
+use Rattle.ms_ir.specs.SoundFunc.{IsSoundFunc}
 use Rattle.ms_grammar.specs.declared.line.RawInst.{RawInst}
-use Rattle.ms_resolve.specs.Shape.{InstLine, BlockLines, FuncLines}
+use Rattle.ms_resolve.specs.Shape.{BlockLines}
 use Rattle.ms_resolve.specs.Used.{values_of, term_values, callee_of, global_of}
 use Rattle.ms_resolve.specs.Faults.{IsIn}
 use Rattle.ms_valid.specs.Faults.{HasInst, HasTerm, CallsOtherwise, ReturnsOtherwise, HasTypeFaultIn, HasEdgeFaultIn, HasOrderFaultIn, given_type}
 use Rattle.ms_valid.specs.Faults as valid
-use Rattle.ms_again.specs.Ordered.{arg_by, step_of, is_open, index_by, added_in, inst_by, given_by, term_by, ordered, ordered_val, ordered_inst}
+use Rattle.ms_again.specs.Ordered.{arg_by, step_of, is_open, index_by, added_in, inst_by, given_by, term_by, ordered, ordered_val}
 use Rattle.ms_again.proofs.Carried.{AreAlike, other_inst, other_block, other_type_alike, entries_alike, uses_alike, term_uses_alike, before_alike}
 use Rattle.ms_again.proofs.NameSound.{inst_globals, term_globals, callee_is}
 use Rattle.ms_again.proofs.ValidSound.{calls_same}
@@ -28,7 +28,7 @@ use Rattle.ms_reprint.proofs.Parts.{at_from, block_from, operands_by, from_mappe
 use Rattle.ms_reprint.proofs.Lines.{ren}
 use Rattle.ms_reprint.proofs.Names.{target_of}
 use Rattle.ms_reprint.proofs.Said.{contains_at}
-use Rattle.ms_reprint.proofs.Faults.{Lined, func_lines, FromInst, FromLines, block_of_lines, inst_of_lines, term_globals_none, no_other_type, fits_back}
+use Rattle.ms_reprint.proofs.Faults.{Lined, func_lines, block_of_lines, inst_of_lines, term_globals_none, no_other_type, fits_back}
 
 step_calls : (m : ModuleState) (b : Val) (o : ℤ) (ts : List IndexTerm) (head index tail : List ℕ) → CallsOtherwise m (step_of b o ts head index tail) → ⊥
 step_calls m b o [] head index tail h = h

@@ -1,35 +1,30 @@
 -- The module of an accepted module's printed lines is the same in order, and has no fault.
-use Rattle.std.proofs.Common.{◌≡◌, ◌≤◌, ◌<◌, ◌+◌, ◌⊎◌, ℕ, zero, suc, Bool, true, false, List, [], ◌∷◌, ◌++◌, drop, Option, Some, None, option_map, length, map, refl, sym, ap, subst, ◌∙◌, inl, inr, ⊎_elim, arith}
+use Rattle.std.proofs.Common.{◌≡◌, ◌≤◌, ◌<◌, ◌+◌, ◌⊎◌, ℕ, zero, suc, List, [], ◌∷◌, ◌++◌, drop, Option, Some, None, option_map, length, map, refl, sym, ap, subst, ◌∙◌, inl, inr, ⊎_elim, arith}
 use Rattle.std.specs.Prelude.{slice_get}
 use Rattle.std.specs.List.{flat_map}
 use Rattle.std.proofs.lemmas.Option.{slice_get_within}
 use Rattle.ms_ir.specs.declared.names.Name.{Name}
-use Rattle.ms_ir.specs.declared.inst.Effects.{Effects}
 use Rattle.ms_ir.specs.declared.module.Item.{Item}
 use Rattle.ms_ir.specs.declared.module.Item.TheVariants as item
 use Rattle.ms_ir.specs.declared.module.Sig.{Sig}
 use Rattle.ms_ir.specs.Func.{Placed, Block, FuncState}
-use Rattle.ms_ir.specs.Graph.{graph_of}
 use Rattle.ms_ir.specs.Module.{ModuleState}
-use Rattle.ms_ir.specs.SoundFunc.{IsSoundFunc}
 use Rattle.ms_ir.specs.Symbols.{NamesState, AreDistinct}
-use Rattle.ms_paths.specs.Flow.{IsReducible}
 use Rattle.ms_grammar.specs.declared.line.Line.{Line}
-use Rattle.ms_grammar.specs.declared.line.Line.TheVariants as said
 use Rattle.ms_resolve.specs.Meaning.{effects_in, keeps_in}
 use Rattle.ms_resolve.specs.Shape.{FuncLines, ItemLines, plain, body}
-use Rattle.ms_resolve.specs.Made.{locals_of, blocks_of}
-use Rattle.ms_resolve.specs.Scope.{Scope, func_of}
-use Rattle.ms_resolve.specs.Module.{func_names_in, global_names_in, groups_of, names_of, sigs_in, items_from, bodies_in, scope_of, funcs_of, module_of}
-use Rattle.ms_resolve.specs.Faults.{IsIn, Symbol, symbols_of, name_of_symbol, IsSymbolAgain, HasFaultIn, HasNameFault}
+use Rattle.ms_resolve.specs.Made.{blocks_of}
+use Rattle.ms_resolve.specs.Scope.{Scope}
+use Rattle.ms_resolve.specs.Module.{func_names_in, global_names_in, names_of, sigs_in, items_from, bodies_in, scope_of, funcs_of, module_of}
+use Rattle.ms_resolve.specs.Faults.{IsIn, symbols_of, name_of_symbol, HasFaultIn, HasNameFault}
 use Rattle.ms_resolve.specs.Faults as named
 use Rattle.ms_resolve.specs.Cause.{NoNameFault}
 use Rattle.ms_valid.specs.Cause.{HasNone}
-use Rattle.ms_valid.specs.Faults.{IsBody, HasTypeFaultIn, HasEdgeFaultIn, HasOrderFaultIn, HasTypeFault, HasEdgeFault, HasOrderFault, IsIrreducible}
-use Rattle.ms_valid.proofs.ListLemmas.{in_nil, get_left, get_right, get_map, map_get, in_here, in_there, in_cons}
-use Rattle.ms_again.specs.Same.{own_name, plain_param, plain_inst, plain_block, plain_func}
-use Rattle.ms_again.specs.Ordered.{term_by, ordered_val, ordered_inst, ordered, ordered_insts, ordered_blocks, ordered_module, IsSameInOrder}
-use Rattle.ms_again.proofs.Carried.{AreAlike, graph_alike}
+use Rattle.ms_valid.specs.Faults.{IsBody, HasTypeFaultIn, HasEdgeFaultIn, HasOrderFaultIn, HasTypeFault, HasEdgeFault, HasOrderFault}
+use Rattle.ms_valid.proofs.ListLemmas.{in_nil, get_left, get_right, map_get, in_there, in_cons}
+use Rattle.ms_again.specs.Same.{own_name, plain_inst, plain_block, plain_func}
+use Rattle.ms_again.specs.Ordered.{term_by, ordered_val, ordered_inst, ordered, ordered_insts, ordered_blocks, IsSameInOrder}
+use Rattle.ms_again.proofs.Carried.{AreAlike}
 use Rattle.ms_again.proofs.Ordered.{own_twice, params_twice}
 use Rattle.ms_again.proofs.Plain.{plain_of, func_plain}
 use Rattle.ms_again.proofs.Sites.{built, bodies_built, func_in}
@@ -40,7 +35,7 @@ use Rattle.ms_reprint.proofs.Built.{scope_in, func_placed}
 use Rattle.ms_reprint.proofs.Faults.{Lined, func_lines, AreKnown, no_name_fault}
 use Rattle.ms_reprint.proofs.Valid.{AreOthers, no_type_fault, no_edge_fault, no_order_fault}
 use Rattle.ms_reprint.proofs.Sound.{in_order}
-use Rattle.ms_reprint.proofs.Items.{LinedBy, AreLined, items_of, drop_next, drop_none, funcs_are, globals_are, groups_are, items_are, sigs_are}
+use Rattle.ms_reprint.proofs.Items.{AreLined, items_of, drop_next, drop_none, funcs_are, globals_are, groups_are, items_are, sigs_are}
 use Rattle.ms_reprint.proofs.Twice.{ordered_alike}
 
 -- ---- a function in order has no written numbers
