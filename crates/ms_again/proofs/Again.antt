@@ -7,7 +7,7 @@ use Rattle.ms_ir.specs.declared.names.Name.TheVariants.{Word, Number, Absent}
 use Rattle.ms_grammar.specs.Kept.{Each}
 use Rattle.ms_grammar.specs.Grammar.{kept_of}
 use Rattle.ms_grammar.specs.declared.line.RawInst.{RawInst}
-use Rattle.ms_grammar.specs.declared.line.RawInst.TheVariants.{Alloca, Gep, Load, Store, Copy, Call, Bin, Cmp, Select, Cast, Phi}
+use Rattle.ms_grammar.specs.declared.line.RawInst.TheVariants.{Alloca, Gep, Step, Load, Store, Copy, Call, Bin, Cmp, Select, Cast, Phi}
 use Rattle.ms_grammar.specs.declared.line.Line.{Line}
 use Rattle.ms_grammar.specs.declared.line.Line.TheVariants as said
 use Rattle.ms_line.specs.Sorts.{sort_of, sort_of_inst}
@@ -127,6 +127,7 @@ numbered_append n (x ∷ xs) ys =
 inst_some : (r : Renaming) (i : RawInst) → is_blank (sort_of_inst (renamed_inst r i)) ≡ false
 inst_some r (Alloca size head rest) = refl
 inst_some r (Gep base offset head index rest) = refl
+inst_some r (Step base offset terms head index rest) = refl
 inst_some r (Load ty ptr rest) = refl
 inst_some r (Store ty val ptr rest) = refl
 inst_some r (Copy to from len head behind rest) = refl

@@ -6,7 +6,7 @@ use Rattle.ms_ir.specs.declared.names.Name.{Name}
 use Rattle.ms_ir.specs.declared.names.Name.TheVariants.{Word, Number, Absent}
 use Rattle.ms_ir.specs.declared.names.Param.{Param}
 use Rattle.ms_grammar.specs.declared.line.RawInst.{RawInst}
-use Rattle.ms_grammar.specs.declared.line.RawInst.TheVariants.{Alloca, Gep, Load, Store, Copy, Call, Bin, Cmp, Select, Cast, Phi}
+use Rattle.ms_grammar.specs.declared.line.RawInst.TheVariants.{Alloca, Gep, Step, Load, Store, Copy, Call, Bin, Cmp, Select, Cast, Phi}
 use Rattle.ms_resolve.specs.Shape.{LabelLine, InstLine, BlockLines, FuncLines}
 use Rattle.ms_resolve.specs.Made.{Made, makes, param_made, inst_made, label_made, block_made, made_in, full_name, free_behind, free_after as free_over, named_from, named_in, locals_of, blocks_of, name_of_made}
 use Rattle.ms_print.specs.Numbering.{numbered, shown_name, free_after, shown_params}
@@ -72,6 +72,7 @@ params_less next (p ∷ ps) = let more = shown_next next p.name in let rest = pa
 pub makes_again : (r : Renaming) (i : RawInst) → makes (renamed_inst r i) ≡ makes i
 makes_again r (Alloca size head rest) = refl
 makes_again r (Gep base offset head index rest) = refl
+makes_again r (Step base offset terms head index rest) = refl
 makes_again r (Load ty ptr rest) = refl
 makes_again r (Store ty val ptr rest) = refl
 makes_again r (Copy to from len head behind rest) = refl

@@ -15,7 +15,7 @@ use Rattle.ms_ir.specs.Graph.{graph_of, numbers, successors}
 use Rattle.ms_ir.specs.Locals.{HasType, IsGiver}
 use Rattle.ms_ir.specs.Uses.{Operand, Use, entry_use, used_at, term_operands, uses_at, term_uses_at}
 use Rattle.ms_ir.specs.Sound.{HasOtherType, IsPathBefore, IsUsedBefore, HasOtherEdges, HasTwoValues, HasBadEntries, edges_between, times_in}
-use Rattle.ms_valid.proofs.ListLemmas.{get_map, map_get}
+use Rattle.ms_validity.proofs.ListLemmas.{get_map, map_get}
 use Rattle.ms_again.specs.Same.{plain_param, plain_inst, plain_block, plain_func}
 
 -- the functions are the same but for their names and room

@@ -6,10 +6,11 @@ use Rattle.ms_ir.specs.declared.names.Ty.TheVariants.{I1, Ptr}
 use Rattle.ms_ir.specs.declared.names.Name.{Name}
 use Rattle.ms_ir.specs.declared.names.Name.TheVariants as name
 use Rattle.ms_ir.specs.declared.names.Param.{Param}
-use Rattle.ms_grammar.specs.Kept.{Each}
+use Rattle.ms_grammar.specs.Kept.{Each, IndexItem}
+use Rattle.ms_grammar.specs.Kept.IndexItem.{constant as a_number, term as a_local}
 use Rattle.ms_grammar.specs.Form.{Scale, name_text, printed}
-use Rattle.ms_grammar.specs.Fits.{IsNamed, MayBeNamed, IsValue, IsArg, IsParam, IsEntryOf, FitsInst, FitsTerm, IsMade}
-use Rattle.ms_grammar.specs.Limits.{IsShort, names_of_value, names_of_arg, names_of_param, names_of_entry, names_of_inst, names_of_term, IsSmallInst, IsWithinLimits}
+use Rattle.ms_grammar.specs.Fits.{IsNamed, MayBeNamed, IsValue, IsArg, IsParam, IsEntryOf, IsLocal, AreTerms, FitsInst, FitsTerm, IsMade}
+use Rattle.ms_grammar.specs.Limits.{IsShort, names_of_value, names_of_arg, names_of_param, names_of_entry, names_of_index, names_of_inst, names_of_term, IsSmallTerm, IsSmallInst, IsWithinLimits}
 use Rattle.ms_grammar.specs.Grammar.{Says, kept_of, without_name}
 use Rattle.ms_grammar.specs.declared.line.Head.{Head}
 use Rattle.ms_grammar.specs.declared.line.Line.{Line}
@@ -18,16 +19,17 @@ use Rattle.ms_grammar.specs.declared.line.RawVal.{RawVal}
 use Rattle.ms_grammar.specs.declared.line.RawVal.TheVariants.{Num, Local, Global}
 use Rattle.ms_grammar.specs.declared.line.RawArg.{RawArg}
 use Rattle.ms_grammar.specs.declared.line.RawEntry.{RawEntry}
+use Rattle.ms_grammar.specs.declared.line.RawIndex.{RawIndex}
 use Rattle.ms_grammar.specs.declared.line.RawInst.{RawInst}
-use Rattle.ms_grammar.specs.declared.line.RawInst.TheVariants.{Alloca, Gep, Load, Store, Copy, Call, Bin, Cmp, Select, Cast, Phi}
+use Rattle.ms_grammar.specs.declared.line.RawInst.TheVariants.{Alloca, Gep, Step, Load, Store, Copy, Call, Bin, Cmp, Select, Cast, Phi}
 use Rattle.ms_grammar.specs.declared.line.RawTerm.{RawTerm}
 use Rattle.ms_grammar.specs.declared.line.RawTerm.TheVariants.{Br, CondBr, Ret, Unreachable}
 use Rattle.ms_line.specs.Cause.{IsRead}
 use Rattle.ms_line.proofs.Again.{kept_within}
 use Rattle.ms_print.specs.Numbering.{shown_params}
 use Rattle.ms_resolve.specs.Made.{makes}
-use Rattle.ms_resolve.specs.Used.{values_of, term_values, inst_blocks, term_blocks, arg_value, entry_value, entry_block}
-use Rattle.ms_again.proofs.Renaming.{Renaming, renamed_val, renamed_arg, renamed_entry, renamed_inst, renamed_term}
+use Rattle.ms_resolve.specs.Used.{values_of, term_values, inst_blocks, term_blocks, arg_value, index_value, entry_value, entry_block}
+use Rattle.ms_again.proofs.Renaming.{Renaming, renamed_val, renamed_arg, renamed_entry, renamed_index, renamed_inst, renamed_term}
 use Rattle.ms_again.proofs.Renamed.{with_params, define_back, inst_line_back, term_line_back, label_line_back}
 use Rattle.ms_again.proofs.Quiet.{IsPrinted, printed_by, kept_printed}
 
@@ -102,9 +104,29 @@ some_entries : (r : Renaming) (es : List RawEntry) → (es ≡ [] → ⊥) → m
 some_entries r [] h e = h refl
 some_entries r (x ∷ es) h e = absurd (cc)
 
+fits_local : (r : Renaming) (v : RawVal) → IsLocal v → IsFitVal r v → IsLocal (renamed_val r v)
+fits_local r (Num ty n) h g = h
+fits_local r (Local n) h g = g
+fits_local r (Global n) h g = h
+
+fits_terms : (r : Renaming) (sizes : List ℕ) (items : List IndexItem) (terms : List RawIndex) → AreTerms sizes items terms → Each (IsFitVal r) (map index_value terms) →
+    AreTerms sizes items (map (renamed_index r) terms)
+fits_terms r sizes [] [] h g = refl
+fits_terms r sizes [] (t ∷ terms) h g = absurd (cc)
+fits_terms r [] (item ∷ items) terms h g = absurd h
+fits_terms r (size ∷ sizes) (a_number v ∷ items) terms h g = fits_terms r sizes items terms h g
+fits_terms r (size ∷ sizes) (a_local ty ∷ items) [] h g = absurd h
+fits_terms r (size ∷ sizes) (a_local ty ∷ items) (t ∷ terms) h g = ((h.0.0, h.0.1, fits_local r t.val h.0.2 g.0), fits_terms r sizes items terms h.1 g.1)
+
+some_terms : (r : Renaming) (terms : List RawIndex) → (terms ≡ [] → ⊥) → map (renamed_index r) terms ≡ [] → ⊥
+some_terms r [] h e = h refl
+some_terms r (t ∷ terms) h e = absurd (cc)
+
 pub fits_inst : (r : Renaming) (scale : Scale) (i : RawInst) → FitsInst scale i → Each (IsFitVal r) (values_of i) → Each (IsFitBlock r) (inst_blocks i) → FitsInst scale (renamed_inst r i)
 fits_inst r scale (Alloca size head rest) h g b = h
 fits_inst r scale (Gep base offset head index rest) h g b = (fits_val r Ptr base h.0 g.0, h.1, h.2)
+fits_inst r scale (Step base offset terms head index rest) h g b =
+    (fits_val r Ptr base h.0 g.0, some_terms r terms h.1, fits_terms r scale.sizes scale.items terms h.2 g.1, h.3)
 fits_inst r scale (Load ty ptr rest) h g b = (h.0, fits_val r Ptr ptr h.1 g.0)
 fits_inst r scale (Store ty val ptr rest) h g b = (h.0, fits_val r ty val h.1 g.0, fits_val r Ptr ptr h.2 g.1.0)
 fits_inst r scale (Copy to from len head behind rest) h g b = (h.0, h.1, fits_val r to.ty to.val h.2 g.0, fits_val r from.ty from.val h.3 g.1.0)
@@ -134,6 +156,7 @@ good_made name.Absent h = tt
 pub fits_made : (r : Renaming) (i : RawInst) (n : Name) → (makes i ≡ true → IsNamed n) → IsMade (made_name i n) (renamed_inst r i)
 fits_made r (Alloca size head rest) n h = h refl
 fits_made r (Gep base offset head index rest) n h = h refl
+fits_made r (Step base offset terms head index rest) n h = h refl
 fits_made r (Load ty ptr rest) n h = h refl
 fits_made r (Store ty val ptr rest) n h = refl
 fits_made r (Copy to from len head behind rest) n h = refl
@@ -186,9 +209,20 @@ short_entries r (e ∷ es) h g b =
           (short_entries r es (each_second IsShort (names_of_value e.val) (flat_map names_of_entry es) rest) g.1 b.1),
     )
 
+short_terms : (r : Renaming) (terms : List RawIndex) → Shorts (flat_map names_of_index terms) → Each (IsGoodVal r) (map index_value terms) → Shorts (flat_map names_of_index (map (renamed_index r) terms))
+short_terms r [] h g = tt
+short_terms r (t ∷ terms) h g =
+    each_join IsShort (names_of_value (renamed_val r t.val)) (flat_map names_of_index (map (renamed_index r) terms))
+    (short_val r t.val (each_first IsShort (names_of_value t.val) (flat_map names_of_index terms) h) g.0)
+    (short_terms r terms (each_second IsShort (names_of_value t.val) (flat_map names_of_index terms) h) g.1)
+
 short_inst : (r : Renaming) (i : RawInst) → Shorts (names_of_inst i) → Each (IsGoodVal r) (values_of i) → Each (IsGoodBlock r) (inst_blocks i) → Shorts (names_of_inst (renamed_inst r i))
 short_inst r (Alloca size head rest) h g b = tt
 short_inst r (Gep base offset head index rest) h g b = short_val r base h g.0
+short_inst r (Step base offset terms head index rest) h g b =
+    each_join IsShort (names_of_value (renamed_val r base)) (flat_map names_of_index (map (renamed_index r) terms))
+    (short_val r base (each_first IsShort (names_of_value base) (flat_map names_of_index terms) h) g.0)
+    (short_terms r terms (each_second IsShort (names_of_value base) (flat_map names_of_index terms) h) g.1)
 short_inst r (Load ty ptr rest) h g b = short_val r ptr h g.0
 short_inst r (Store ty val ptr rest) h g b = short_two r val ptr h g.0 g.1.0
 short_inst r (Copy to from len head behind rest) h g b = short_two r to.val from.val h g.0 g.1.0
@@ -209,9 +243,14 @@ short_term r (Ret None rest) h g b = tt
 short_term r (Ret (Some given) rest) h g b = short_val r given.1 h g.0
 short_term r (Unreachable rest) h g b = tt
 
+small_terms : (r : Renaming) (terms : List RawIndex) → Each IsSmallTerm terms → Each IsSmallTerm (map (renamed_index r) terms)
+small_terms r [] h = tt
+small_terms r (t ∷ terms) h = (h.0, small_terms r terms h.1)
+
 small_inst : (r : Renaming) (i : RawInst) → IsSmallInst i → IsSmallInst (renamed_inst r i)
 small_inst r (Alloca size head rest) h = h
 small_inst r (Gep base offset head index rest) h = h
+small_inst r (Step base offset terms head index rest) h = (h.0, small_terms r terms h.1)
 small_inst r (Load ty ptr rest) h = tt
 small_inst r (Store ty val ptr rest) h = tt
 small_inst r (Copy to from len head behind rest) h = h

@@ -23,22 +23,26 @@ use Rattle.ms_ir.specs.Symbols.{NamesState}
 use Rattle.ms_ir.specs.Func.{Placed, Block, FuncState}
 use Rattle.ms_ir.specs.Module.{ModuleState, body_in, body_of}
 use Rattle.ms_grammar.specs.Kept.{Each}
-use Rattle.ms_grammar.specs.Form.{printed}
+use Rattle.ms_grammar.specs.Parts.{filled, text_of}
+use Rattle.ms_grammar.specs.Form.{no_scale, inst_parts, result_parts, printed, index_text}
 use Rattle.ms_grammar.specs.declared.line.RawVal.{RawVal}
 use Rattle.ms_grammar.specs.declared.line.RawVal.TheVariants as val
 use Rattle.ms_grammar.specs.declared.line.RawArg.{RawArg}
 use Rattle.ms_grammar.specs.declared.line.RawEntry.{RawEntry}
+use Rattle.ms_grammar.specs.declared.line.RawIndex.{RawIndex}
 use Rattle.ms_grammar.specs.declared.line.RawInst.{RawInst}
 use Rattle.ms_grammar.specs.declared.line.RawInst.TheVariants as raw
 use Rattle.ms_grammar.specs.declared.line.RawTerm.{RawTerm}
 use Rattle.ms_grammar.specs.declared.line.RawTerm.TheVariants as end
 use Rattle.ms_grammar.specs.declared.line.Line.TheVariants as line
+use Rattle.ms_grammar.proofs.Printing.{text_of_append}
 use Rattle.ms_print.specs.Numbering.{shown_name, free_after, shown_params, free_after_params, free_after_inst, free_after_insts, free_after_block, shown_labels, is_given, name_among, name_in, param_name, name_of_param, local_name, labels_of}
-use Rattle.ms_print.specs.Lines.{Shown, shown_in, word_at, label_of, raw_val, raw_arg, raw_entry, raw_inst, raw_given, raw_term, result_name, inst_line, term_line, define_line, define_with}
+use Rattle.ms_print.specs.Lines.{Shown, shown_in, word_at, label_of, raw_val, raw_arg, raw_entry, raw_index, raw_inst, raw_given, raw_term, result_name, inst_line, term_line, define_line, define_with}
 use Rattle.ms_print.specs.Text.{ended, line_text, insts_text, label_text, block_text, blocks_text, func_text, no_notes, body_text, item_text, has_body, gap, items_text, module_text}
 use Rattle.ms_print.proofs.NumberingLemmas.{shown_params-length}
 use Rattle.ms_again.specs.Same.{own_name, plain_param}
-use Rattle.ms_again.specs.Ordered.{is_open, added_in, step_of, index_by, arg_by, entry_by, inst_by, given_by, term_by, number_in, result_of, results_of, results_in, place_in, local_at, ordered_local, ordered_val, ordered_inst, ordered_insts, ordered_blocks, ordered, ordered_module, IsSameInOrder}
+use Rattle.ms_again.specs.Ordered.{is_open, kept_term, added_in, step_of, index_by, arg_by, entry_by, inst_by, given_by, term_by, number_in, result_of, results_of, results_in, place_in, local_at, ordered_local, ordered_val, ordered_inst, ordered_insts, ordered_blocks, ordered, ordered_module, IsSameInOrder}
+use Rattle.ms_again.proofs.Fills.{filled_twice}
 use Rattle.ms_again.proofs.Fine.{each_first, each_second}
 use Rattle.ms_again.proofs.Sites.{each_at}
 use Rattle.ms_again.proofs.SameText.{shown_own, free_own, params_plain, free_params_plain, label_plain}
@@ -227,15 +231,37 @@ entries_ordered f g s h [] = refl
 entries_ordered f g s h (e ∷ es) =
     ap (λ (b : RawEntry). b ∷ map (raw_entry (shown_as g s)) (map (entry_by (ordered_val f)) es)) (entry_ordered f g s h e) ∙ ap (λ (bs : List RawEntry). raw_entry s e ∷ bs) (entries_ordered f g s h es)
 
+terms_ordered : (f : FuncState) (g : ℕ → Name) (s : Shown) → Follows f g s → (ts : List IndexTerm) → map (raw_index (shown_as g s)) (map (index_by (ordered_val f)) ts) ≡ map (raw_index s) ts
+terms_ordered f g s h [] = refl
+terms_ordered f g s h (t ∷ ts) =
+    ap (λ v. let d : RawIndex = record { val = v; ty = t.ty; scale = t.scale } in d ∷ map (raw_index (shown_as g s)) (map (index_by (ordered_val f)) ts)) (val_ordered f g s h t.val)
+    ∙ ap (λ (ds : List RawIndex). raw_index s t ∷ ds) (terms_ordered f g s h ts)
+
 -- two values of a line
 two_vals : (F : RawVal → RawVal → RawInst) (a b c d : RawVal) → a ≡ c → b ≡ d → F a b ≡ F c d
 two_vals F a b c d e k = ap (λ x. F x b) e ∙ ap (λ x. F c x) k
 
--- a getelementptr is printed without its offset and its terms
+-- a getelementptr is printed without its offset, its terms in their places
+abbrev with_terms : List RawIndex → List ℕ → List ℕ
+with_terms terms index = filled (map index_text terms) index
+
+abbrev gep_text : Name → ℤ → RawVal → List ℕ → List ℕ → List ℕ → List ℕ
+gep_text n offset base head index tail = printed (line.Inst n (raw.Gep base offset head index tail))
+
+line_texts : (n : Name) (i j : RawInst) → text_of (inst_parts no_scale i) ≡ text_of (inst_parts no_scale j) → printed (line.Inst n i) ≡ printed (line.Inst n j)
+line_texts n i j e =
+    ap (λ (x : List ℕ). 32 ∷ 32 ∷ x)
+    (text_of_append (result_parts n) (inst_parts no_scale i)
+    ∙ (ap (λ (x : List ℕ). text_of (result_parts n) ++ x) e ∙ sym (text_of_append (result_parts n) (inst_parts no_scale j))))
+
+terms_text : (n : Name) (base : RawVal) (offset : ℤ) (terms : List RawIndex) (head index tail : List ℕ) →
+    printed (line.Inst n (raw.Step base offset terms head index tail)) ≡ gep_text n offset base head (with_terms terms index) tail
+terms_text n base offset terms head index tail = line_texts n (raw.Step base offset terms head index tail) (raw.Gep base offset head (with_terms terms index) tail) refl
+
 step_text : (t : Shown) (n : Name) (base : Val) (offset : ℤ) (terms : List IndexTerm) (head index tail : List ℕ) →
-    printed (line.Inst n (raw_inst t (step_of base offset terms head index tail))) ≡ printed (line.Inst n (raw.Gep (raw_val t base) offset head index tail))
+    printed (line.Inst n (raw_inst t (step_of base offset terms head index tail))) ≡ gep_text n offset (raw_val t base) head (with_terms (map (raw_index t) terms) index) tail
 step_text t n base offset [] head index tail = refl
-step_text t n base offset (x ∷ xs) head index tail = refl
+step_text t n base offset (x ∷ xs) head index tail = terms_text n (raw_val t base) offset (map (raw_index t) (x ∷ xs)) head index tail
 
 inst_ordered : (f : FuncState) (g : ℕ → Name) (s : Shown) → Follows f g s → (n : Name) (i : Inst) →
     printed (line.Inst n (raw_inst (shown_as g s) (inst_by (ordered_val f) i))) ≡ printed (line.Inst n (raw_inst s i))
@@ -243,8 +269,12 @@ inst_ordered f g s h n (Alloca size head tail) = refl
 inst_ordered f g s h n (Gep base offset head index tail) = ap (λ b. printed (line.Inst n (raw.Gep b offset head index tail))) (val_ordered f g s h base)
 inst_ordered f g s h n (Step base offset terms head index tail) =
     let news = map (index_by (ordered_val f)) terms in
-    step_text (shown_as g s) n (ordered_val f base) (offset +ℤ added_in news) (filter is_open news) head index tail
-    ∙ ap (λ b. printed (line.Inst n (raw.Gep b offset head index tail))) (val_ordered f g s h base)
+    let new = raw_val (shown_as g s) (ordered_val f base) in
+    step_text (shown_as g s) n (ordered_val f base) (offset +ℤ added_in news) (filter is_open news) head (filled (map kept_term news) index) tail
+    ∙ ap (λ (x : List ℕ). gep_text n offset new head x tail) (filled_twice (shown_as g s) news index)
+    ∙ ap (λ (ts : List RawIndex). gep_text n offset new head (with_terms ts index) tail) (terms_ordered f g s h terms)
+    ∙ ap (λ b. gep_text n offset b head (with_terms (map (raw_index s) terms) index) tail) (val_ordered f g s h base)
+    ∙ sym (terms_text n (raw_val s base) offset (map (raw_index s) terms) head index tail)
 inst_ordered f g s h n (Load ty ptr tail) = ap (λ p. printed (line.Inst n (raw.Load ty p tail))) (val_ordered f g s h ptr)
 inst_ordered f g s h n (Store ty v ptr tail) =
     ap (λ i. printed (line.Inst n i)) (two_vals (λ a b. raw.Store ty a b tail) _ _ _ _ (val_ordered f g s h v) (val_ordered f g s h ptr))

@@ -11,7 +11,7 @@ use Rattle.ms_grammar.specs.declared.line.Line.{Line}
 use Rattle.ms_grammar.specs.declared.line.RawVal.{RawVal}
 use Rattle.ms_grammar.specs.declared.line.RawVal.TheVariants.{Num, Local, Global}
 use Rattle.ms_grammar.specs.declared.line.RawInst.{RawInst}
-use Rattle.ms_grammar.specs.declared.line.RawInst.TheVariants.{Alloca, Gep, Load, Store, Copy, Call, Bin, Cmp, Select, Cast, Phi}
+use Rattle.ms_grammar.specs.declared.line.RawInst.TheVariants.{Alloca, Gep, Step, Load, Store, Copy, Call, Bin, Cmp, Select, Cast, Phi}
 use Rattle.ms_resolve.specs.Shape.{InstLine, BlockLines, FuncLines, ItemLines, plain, body}
 use Rattle.ms_resolve.specs.Used.{values_of, term_values, callee_of, global_of, inst_names, term_names}
 use Rattle.ms_resolve.specs.Faults.{IsIn, StandsAt}
@@ -19,11 +19,11 @@ use Rattle.ms_resolve.specs.Faults as named
 use Rattle.ms_resolve.specs.Cause.{NoNameFault}
 use Rattle.ms_resolve.specs.Module.{names_of, scope_of, funcs_of, module_of}
 use Rattle.ms_resolve.proofs.Members.{in_among}
-use Rattle.ms_valid.specs.Cause.{HasNone}
-use Rattle.ms_valid.specs.Faults.{HasInst, HasTerm, HasTypeFault}
-use Rattle.ms_valid.specs.Faults as valid
-use Rattle.ms_valid.proofs.BuiltLemmas.{at_built, from_term}
-use Rattle.ms_valid.proofs.ListLemmas.{in_here, in_left, in_right, flat_in}
+use Rattle.ms_validity.specs.Cause.{HasNone}
+use Rattle.ms_validity.specs.Faults.{HasInst, HasTerm, HasTypeFault}
+use Rattle.ms_validity.specs.Faults as valid
+use Rattle.ms_validity.proofs.BuiltLemmas.{at_built, from_term}
+use Rattle.ms_validity.proofs.ListLemmas.{in_here, in_left, in_right, flat_in}
 use Rattle.ms_again.proofs.Quiet.{IsPrinted}
 use Rattle.ms_again.proofs.Printed.{IsKnownVal, IsKnownCall, IsKnownInst, IsKnownBlock, IsKnownFunc, IsKnownItem}
 use Rattle.ms_again.proofs.Sites.{each_at, at_each, IsBlockBy, IsFuncBy, IsNamedVal, inst_values, term_named, name_again, symbol_known, built, body_at, func_in, func_there}
@@ -47,6 +47,7 @@ vals_by items vals known h = each_at (IsKnownVal (names_of items)) vals (λ k v 
 callee_by : (items : List ItemLines) (scale : Scale) (i : RawInst) → FitsInst scale i → ((w : List ℕ) → IsIn (callee_of i) w → IsIn (names_of items).funcs w) → IsKnownCall (names_of items) i
 callee_by items scale (Alloca size head rest) h known = tt
 callee_by items scale (Gep base offset head index rest) h known = tt
+callee_by items scale (Step base offset terms head index rest) h known = tt
 callee_by items scale (Load ty ptr rest) h known = tt
 callee_by items scale (Store ty val ptr rest) h known = tt
 callee_by items scale (Copy to from len head behind rest) h known = tt

@@ -2,6 +2,7 @@ pub mod Again
 pub mod AgainNames
 pub mod Carried
 pub mod Draft
+pub mod Fills
 pub mod Fine
 pub mod InOrder
 pub mod Known
@@ -25,3 +26,4 @@ pub mod ShownNames
 pub mod Sites
 pub mod Uses
 pub mod ValidSound
+pub mod Woven

@@ -9,20 +9,21 @@ use Rattle.ms_grammar.specs.declared.line.RawVal.{RawVal}
 use Rattle.ms_grammar.specs.declared.line.RawVal.TheVariants.{Num, Local, Global}
 use Rattle.ms_grammar.specs.declared.line.RawArg.{RawArg}
 use Rattle.ms_grammar.specs.declared.line.RawEntry.{RawEntry}
+use Rattle.ms_grammar.specs.declared.line.RawIndex.{RawIndex}
 use Rattle.ms_grammar.specs.declared.line.RawInst.{RawInst}
-use Rattle.ms_grammar.specs.declared.line.RawInst.TheVariants.{Alloca, Gep, Load, Store, Copy, Call, Bin, Cmp, Select, Cast, Phi}
+use Rattle.ms_grammar.specs.declared.line.RawInst.TheVariants.{Alloca, Gep, Step, Load, Store, Copy, Call, Bin, Cmp, Select, Cast, Phi}
 use Rattle.ms_grammar.specs.declared.line.RawTerm.{RawTerm}
 use Rattle.ms_grammar.specs.declared.line.RawTerm.TheVariants.{Br, CondBr, Ret, Unreachable}
 use Rattle.ms_resolve.specs.Shape.{InstLine, BlockLines, FuncLines, ItemLines, plain, body}
 use Rattle.ms_resolve.specs.Made.{made_in, named_in, name_of_made}
-use Rattle.ms_resolve.specs.Used.{Names, values_of, term_values, inst_blocks, term_blocks, callee_of, local_of, global_of, arg_value, entry_value, entry_block, inst_names, term_names}
+use Rattle.ms_resolve.specs.Used.{Names, values_of, term_values, inst_blocks, term_blocks, callee_of, local_of, global_of, arg_value, index_value, entry_value, entry_block, inst_names, term_names}
 use Rattle.ms_resolve.specs.Faults.{IsIn, NamesFirst, symbols_of, name_of_symbol, IsSymbolAgain, IsMadeAgain, StandsAt, UsesUnknown, HasFaultIn, HasNameFault}
 use Rattle.ms_resolve.specs.Faults as named
 use Rattle.ms_resolve.specs.Cause.{NoNameFault}
 use Rattle.ms_resolve.proofs.FirstFacts.{local_first, block_first}
 use Rattle.ms_resolve.proofs.Members.{among_in}
-use Rattle.ms_valid.proofs.ListLemmas.{in_nil, in_one, in_flat, get_map, map_get}
-use Rattle.ms_again.proofs.Renaming.{Renaming, renamed_val, renamed_arg, renamed_entry, renamed_inst, renamed_term}
+use Rattle.ms_validity.proofs.ListLemmas.{in_nil, in_one, in_flat, get_map, map_get}
+use Rattle.ms_again.proofs.Renaming.{Renaming, renamed_val, renamed_arg, renamed_entry, renamed_index, renamed_inst, renamed_term}
 use Rattle.ms_again.proofs.Right.{AreApart, apart_at, names_in}
 use Rattle.ms_again.proofs.Names.{shown, locals_listed, blocks_listed, block_free, inst_free, label_name}
 use Rattle.ms_again.proofs.Again.{renaming, label_said, block_said, insts_again, block_again, blocks_again, start, func_said, gap_said, func_again, items_again}
@@ -102,9 +103,14 @@ entries_froms : (r : Renaming) (es : List RawEntry) → map entry_block (map (re
 entries_froms r [] = refl
 entries_froms r (e ∷ es) = ap (λ (ns : List Name). r.block e.from ∷ ns) (entries_froms r es)
 
+terms_values : (r : Renaming) (terms : List RawIndex) → map index_value (map (renamed_index r) terms) ≡ map (renamed_val r) (map index_value terms)
+terms_values r [] = refl
+terms_values r (t ∷ terms) = ap (λ (vs : List RawVal). renamed_val r t.val ∷ vs) (terms_values r terms)
+
 pub inst_values_are : (r : Renaming) (i : RawInst) → values_of (renamed_inst r i) ≡ map (renamed_val r) (values_of i)
 inst_values_are r (Alloca size head rest) = refl
 inst_values_are r (Gep base offset head index rest) = refl
+inst_values_are r (Step base offset terms head index rest) = ap (λ (vs : List RawVal). renamed_val r base ∷ vs) (terms_values r terms)
 inst_values_are r (Load ty ptr rest) = refl
 inst_values_are r (Store ty val ptr rest) = refl
 inst_values_are r (Copy to from len head behind rest) = refl
@@ -118,6 +124,7 @@ inst_values_are r (Phi ty entries rest) = entries_values r entries
 pub inst_blocks_are : (r : Renaming) (i : RawInst) → inst_blocks (renamed_inst r i) ≡ map r.block (inst_blocks i)
 inst_blocks_are r (Alloca size head rest) = refl
 inst_blocks_are r (Gep base offset head index rest) = refl
+inst_blocks_are r (Step base offset terms head index rest) = refl
 inst_blocks_are r (Load ty ptr rest) = refl
 inst_blocks_are r (Store ty val ptr rest) = refl
 inst_blocks_are r (Copy to from len head behind rest) = refl
@@ -131,6 +138,7 @@ inst_blocks_are r (Phi ty entries rest) = entries_froms r entries
 pub callee_is : (r : Renaming) (i : RawInst) → callee_of (renamed_inst r i) ≡ callee_of i
 callee_is r (Alloca size head rest) = refl
 callee_is r (Gep base offset head index rest) = refl
+callee_is r (Step base offset terms head index rest) = refl
 callee_is r (Load ty ptr rest) = refl
 callee_is r (Store ty val ptr rest) = refl
 callee_is r (Copy to from len head behind rest) = refl

@@ -22,7 +22,7 @@ use Rattle.ms_names.specs.Faults.{small, again, inside}
 use Rattle.ms_names.proofs.Members.{among_in}
 use Rattle.ms_resolve.specs.Cause.{NoNameFault}
 use Rattle.ms_resolve.proofs.ModuleFacts.{AreMadeFine, built_is}
-use Rattle.ms_valid.specs.Cause.{IsAccepted}
+use Rattle.ms_validity.specs.Cause.{IsAccepted}
 use Rattle.ms_again.specs.Same.{plain_func, plain_module, IsSameModule}
 
 -- the bodies of items but for their room

@@ -7,7 +7,7 @@ use Rattle.ms_ir.specs.declared.names.Name.{Name}
 use Rattle.ms_ir.specs.declared.names.Name.TheVariants.{Word, Number, Absent}
 use Rattle.ms_grammar.specs.Kept.{Each}
 use Rattle.ms_grammar.specs.declared.line.RawInst.{RawInst}
-use Rattle.ms_grammar.specs.declared.line.RawInst.TheVariants.{Alloca, Gep, Load, Store, Copy, Call, Bin, Cmp, Select, Cast, Phi}
+use Rattle.ms_grammar.specs.declared.line.RawInst.TheVariants.{Alloca, Gep, Step, Load, Store, Copy, Call, Bin, Cmp, Select, Cast, Phi}
 use Rattle.ms_grammar.specs.declared.line.Line.{Line}
 use Rattle.ms_grammar.specs.declared.line.Line.TheVariants as said
 use Rattle.ms_line.specs.Sorts.{sort_of, sort_of_inst}
@@ -113,6 +113,7 @@ without_label at end s rest begun start h = by at.place at.functions at.blocks a
 pub inst_sort : (r : Renaming) (i : RawInst) → sort_of_inst (renamed_inst r i) ≡ sort_of_inst i
 inst_sort r (Alloca size head rest) = refl
 inst_sort r (Gep base offset head index rest) = refl
+inst_sort r (Step base offset terms head index rest) = refl
 inst_sort r (Load ty ptr rest) = refl
 inst_sort r (Store ty val ptr rest) = refl
 inst_sort r (Copy to from len head behind rest) = refl
@@ -126,6 +127,7 @@ inst_sort r (Phi ty entries rest) = refl
 pub inst_starts : (i : RawInst) → IsStart (sort_of_inst i)
 inst_starts (Alloca size head rest) = tt
 inst_starts (Gep base offset head index rest) = tt
+inst_starts (Step base offset terms head index rest) = tt
 inst_starts (Load ty ptr rest) = tt
 inst_starts (Store ty val ptr rest) = tt
 inst_starts (Copy to from len head behind rest) = tt

@@ -24,21 +24,22 @@ use Rattle.ms_grammar.specs.declared.line.RawVal.{RawVal}
 use Rattle.ms_grammar.specs.declared.line.RawVal.TheVariants.{Num, Local, Global}
 use Rattle.ms_grammar.specs.declared.line.RawArg.{RawArg}
 use Rattle.ms_grammar.specs.declared.line.RawEntry.{RawEntry}
+use Rattle.ms_grammar.specs.declared.line.RawIndex.{RawIndex}
 use Rattle.ms_grammar.specs.declared.line.RawInst.{RawInst}
-use Rattle.ms_grammar.specs.declared.line.RawInst.TheVariants.{Alloca, Gep, Load, Store, Copy, Call, Bin, Cmp, Select, Cast, Phi}
+use Rattle.ms_grammar.specs.declared.line.RawInst.TheVariants.{Alloca, Gep, Step, Load, Store, Copy, Call, Bin, Cmp, Select, Cast, Phi}
 use Rattle.ms_grammar.specs.declared.line.RawTerm.{RawTerm}
 use Rattle.ms_grammar.specs.declared.line.RawTerm.TheVariants.{Br, CondBr, Ret, Unreachable}
 use Rattle.ms_grammar.proofs.Printing.{text_of_append}
 use Rattle.ms_resolve.specs.Shape.{InstLine, BlockLines, FuncLines, ItemLines, plain, body, IsItem}
 use Rattle.ms_resolve.specs.Made.{makes}
-use Rattle.ms_resolve.specs.Used.{values_of, term_values, arg_value, entry_value}
-use Rattle.ms_resolve.specs.Scope.{Scope, number_of_name, number_of_word, value_of, arg_of, args_of, entry_of, behind_first, inst_of, term_of, local_behind, locals_behind, func_of}
+use Rattle.ms_resolve.specs.Used.{values_of, term_values, arg_value, index_value, entry_value}
+use Rattle.ms_resolve.specs.Scope.{Scope, number_of_name, number_of_word, value_of, arg_of, args_of, entry_of, index_of, behind_first, inst_of, term_of, local_behind, locals_behind, func_of}
 use Rattle.ms_resolve.specs.Module.{names_of, scope_of, bodies_in, items_from, module_of}
 use Rattle.ms_print.specs.Numbering.{shown_name, free_after, shown_params}
-use Rattle.ms_print.specs.Lines.{Shown, label_of, word_at, raw_val, raw_arg, raw_entry, raw_inst, raw_term, result_name, inst_line, term_line, label_line, define_line}
+use Rattle.ms_print.specs.Lines.{Shown, label_of, word_at, raw_val, raw_arg, raw_entry, raw_index, raw_inst, raw_term, result_name, inst_line, term_line, label_line, define_line}
 use Rattle.ms_print.specs.Text.{ended, line_text, insts_text, first_label, label_text, block_text, blocks_text, func_text, no_notes, body_text, gap, items_text, module_text}
 use Rattle.ms_again.specs.Same.{own_name, plain_param}
-use Rattle.ms_again.proofs.Renaming.{Renaming, renamed_val, renamed_arg, renamed_entry, renamed_inst, renamed_term}
+use Rattle.ms_again.proofs.Renaming.{Renaming, renamed_val, renamed_arg, renamed_entry, renamed_index, renamed_inst, renamed_term}
 use Rattle.ms_again.proofs.SameText.{params_plain, func_plain}
 use Rattle.ms_again.proofs.Plain as plain_lines
 use Rattle.ms_again.proofs.Plain.{plain_at, plain_insts, plain_blocks, plain_of}
@@ -111,6 +112,13 @@ entries_again s names t r fits (e ∷ es) h =
     ∙ ap (λ n. let d : RawEntry = record { val = renamed_val r e.val; from = n } in d ∷ map (raw_entry t) (map (entry_of s) es)) (fits.block e.from)
     ∙ ap (λ (rest : List RawEntry). renamed_entry r e ∷ rest) (entries_again s names t r fits es h.1)
 
+terms_again : (s : Scope) (names : NamesState) (t : Shown) (r : Renaming) → Fits s names t r → (terms : List RawIndex) → Each (IsKnownVal names) (map index_value terms) →
+    map (raw_index t) (map (index_of s) terms) ≡ map (renamed_index r) terms
+terms_again s names t r fits [] h = refl
+terms_again s names t r fits (x ∷ terms) h =
+    ap (λ v. let d : RawIndex = record { val = v; ty = x.ty; scale = x.scale } in d ∷ map (raw_index t) (map (index_of s) terms)) (val_again s names t r fits x.val h.0)
+    ∙ ap (λ (rest : List RawIndex). renamed_index r x ∷ rest) (terms_again s names t r fits terms h.1)
+
 -- what stands behind a call's arguments is printed the same, in one part or in two
 end_text : (last rest : List ℕ) → text_of (end_parts [] (behind_blank last ++ rest)) ≡ text_of (end_parts last rest)
 end_text last rest = append_assoc (behind_blank last) rest []
@@ -139,6 +147,9 @@ inst_text : (s : Scope) (names : NamesState) (t : Shown) (r : Renaming) → Fits
 inst_text s names t r fits (Alloca size head rest) h = refl
 inst_text s names t r fits (Gep base offset head index rest) h =
     ap (λ v. text_of (inst_parts no_scale (Gep v offset head index rest))) (val_again s names t r fits base h.values.0)
+inst_text s names t r fits (Step base offset terms head index rest) h =
+    ap (λ v. text_of (inst_parts no_scale (Step v offset (map (raw_index t) (map (index_of s) terms)) head index rest))) (val_again s names t r fits base h.values.0)
+    ∙ ap (λ (ts : List RawIndex). text_of (inst_parts no_scale (Step (renamed_val r base) offset ts head index rest))) (terms_again s names t r fits terms h.values.1)
 inst_text s names t r fits (Load ty ptr rest) h = ap (λ v. text_of (inst_parts no_scale (Load ty v rest))) (val_again s names t r fits ptr h.values.0)
 inst_text s names t r fits (Store ty val ptr rest) h =
     ap (λ v. text_of (inst_parts no_scale (Store ty v (raw_val t (value_of s ptr)) rest))) (val_again s names t r fits val h.values.0)

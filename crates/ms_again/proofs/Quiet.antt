@@ -18,7 +18,7 @@ use Rattle.ms_grammar.specs.Grammar.{Says, kept_of}
 use Rattle.ms_grammar.specs.declared.line.Line.{Line}
 use Rattle.ms_grammar.specs.declared.line.Line.TheVariants as said
 use Rattle.ms_grammar.specs.declared.line.RawInst.{RawInst}
-use Rattle.ms_grammar.specs.declared.line.RawInst.TheVariants.{Gep}
+use Rattle.ms_grammar.specs.declared.line.RawInst.TheVariants.{Gep, Step}
 use Rattle.ms_grammar.proofs.Printing.{text_of_append}
 use Rattle.ms_reread.proofs.Places.{Stands, Run, follow_map, whole_tokens}
 use Rattle.ms_reread.proofs.Moves.{Old}
@@ -107,6 +107,7 @@ run_quiet line from to (t ∷ ts) run k low high =
 -- the printed form needs no sizes and no indices
 inst_text : (s t : Scale) (i : RawInst) → text_of (inst_parts s i) ≡ text_of (inst_parts t i)
 inst_text s t (Gep base offset head index rest) = refl
+inst_text s t (Step base offset terms head index rest) = refl
 inst_text s t i = refl
 
 line_text : (s t : Scale) (l : Line) → text_of (form s l) ≡ text_of (form t l)

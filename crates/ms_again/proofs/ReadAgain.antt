@@ -10,8 +10,8 @@ use Rattle.ms_read.specs.Told.{IsSaid, IsPlaced, sorts_of}
 use Rattle.ms_read.proofs.Told.{told_lines, told_places}
 use Rattle.ms_resolve.specs.Shape.{ItemLines, item_lines, IsShape}
 use Rattle.ms_resolve.specs.Module.{module_of}
-use Rattle.ms_valid.specs.Cause.{IsAccepted, HasNone}
-use Rattle.ms_valid.specs.Faults.{HasTypeFault, HasEdgeFault, HasOrderFault}
+use Rattle.ms_validity.specs.Cause.{IsAccepted, HasNone}
+use Rattle.ms_validity.specs.Faults.{HasTypeFault, HasEdgeFault, HasOrderFault}
 use Rattle.ms_again.specs.Same.{plain_module, IsSameModule}
 use Rattle.ms_again.specs.Again.{IsReadAgain, IsReadInOrder}
 use Rattle.ms_again.specs.Basis.{IsBasis}

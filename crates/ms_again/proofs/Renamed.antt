@@ -1,5 +1,5 @@
 -- A line whose locals and blocks get other names is said by its printed form, where those are names.
-use Rattle.std.proofs.Common.{◌≡◌, ℕ, Bool, true, false, List, [], ◌∷◌, ◌++◌, Some, None, map, refl, subst, arith}
+use Rattle.std.proofs.Common.{◌≡◌, ℕ, suc, Bool, true, false, List, [], ◌∷◌, ◌++◌, Some, None, length, map, refl, ap, subst, arith}
 use Rattle.ms_lex.specs.declared.token.Token.{Token}
 use Rattle.ms_ir.specs.declared.names.Ty.{Ty}
 use Rattle.ms_ir.specs.declared.names.Ty.TheVariants.{I1, I64, Ptr}
@@ -8,7 +8,7 @@ use Rattle.ms_ir.specs.declared.names.Name.TheVariants as name
 use Rattle.ms_ir.specs.declared.names.Param.{Param}
 use Rattle.ms_grammar.specs.Kept.{Each}
 use Rattle.ms_grammar.specs.Parts.{Part, blank, token, apart, attributes, post, object, gep_head, indices, call_head, copy_head, Spells}
-use Rattle.ms_grammar.specs.Form.{Scale, form, word_part, type_part, local_part, value_part, brace_parts, front_parts, listed, arg_parts, entry_parts, name_text, named_parts, param_parts, dots_parts, end_parts, target_parts, inst_parts, term_parts, result_parts}
+use Rattle.ms_grammar.specs.Form.{Scale, form, word_part, type_part, local_part, value_part, brace_parts, front_parts, listed, arg_parts, entry_parts, index_text, name_text, named_parts, param_parts, dots_parts, end_parts, target_parts, inst_parts, term_parts, result_parts}
 use Rattle.ms_grammar.specs.Fits.{IsNamed, MayBeNamed, IsValue, IsArg, IsParam, IsEntryOf, FitsInst, FitsTerm, FitsHead}
 use Rattle.ms_grammar.specs.declared.line.Head.{Head}
 use Rattle.ms_grammar.specs.declared.line.Line.TheVariants as said
@@ -16,8 +16,9 @@ use Rattle.ms_grammar.specs.declared.line.RawVal.{RawVal}
 use Rattle.ms_grammar.specs.declared.line.RawVal.TheVariants.{Num, Local, Global}
 use Rattle.ms_grammar.specs.declared.line.RawArg.{RawArg}
 use Rattle.ms_grammar.specs.declared.line.RawEntry.{RawEntry}
+use Rattle.ms_grammar.specs.declared.line.RawIndex.{RawIndex}
 use Rattle.ms_grammar.specs.declared.line.RawInst.{RawInst}
-use Rattle.ms_grammar.specs.declared.line.RawInst.TheVariants.{Alloca, Gep, Load, Store, Copy, Call, Bin, Cmp, Select, Cast, Phi}
+use Rattle.ms_grammar.specs.declared.line.RawInst.TheVariants.{Alloca, Gep, Step, Load, Store, Copy, Call, Bin, Cmp, Select, Cast, Phi}
 use Rattle.ms_grammar.specs.declared.line.RawTerm.{RawTerm}
 use Rattle.ms_grammar.specs.declared.line.RawTerm.TheVariants.{Br, CondBr, Ret, Unreachable}
 use Rattle.ms_grammar.specs.declared.keyword.Keyword.{Keyword}
@@ -29,7 +30,9 @@ use Rattle.ms_reread.proofs.Pieces.{Back, Next, behind, behind_free, next_behind
 use Rattle.ms_reread.proofs.Classes.{kept_back, attributes_next, post_next, tail_next}
 use Rattle.ms_reread.proofs.Tokens.{word_whole, type_whole, op_whole, predicate_whole, cast_whole, result_whole, global_whole, global_name_whole, local_whole, label_whole, colon_calm, open_calm, close_calm, open_square}
 use Rattle.ms_reread.proofs.Values.{EachBack, count_back, value_back, comma_next, listed_back}
-use Rattle.ms_again.proofs.Renaming.{Renaming, renamed_val, renamed_arg, renamed_entry, renamed_inst, renamed_term}
+use Rattle.ms_reread.proofs.Renewed.{terms_whole}
+use Rattle.ms_again.proofs.Woven.{terms_local, woven_other}
+use Rattle.ms_again.proofs.Renaming.{Renaming, renamed_val, renamed_arg, renamed_entry, renamed_index, renamed_inst, renamed_term}
 
 -- tokens that are written anew, whatever was said in their place
 nothing_old : Old [] []
@@ -94,6 +97,11 @@ each_entry : (r : Renaming) (ty : Ty) (entries : List RawEntry) → Each (IsEntr
 each_entry r ty [] h = tt
 each_entry r ty (e ∷ entries) h = (entry_back r ty e h.0, each_entry r ty entries h.1)
 
+-- as many indices
+same_count : (r : Renaming) (terms : List RawIndex) → length (map index_text terms) ≡ length (map index_text (map (renamed_index r) terms))
+same_count r [] = refl
+same_count r (t ∷ terms) = ap suc (same_count r terms)
+
 end_next : (last rest : List ℕ) → Next false (end_parts last rest) (end_parts last rest)
 end_next last rest = next_behind (post_next last) (tail_next rest)
 
@@ -104,6 +112,13 @@ inst_back r scale (Gep base offset head index rest) h =
     token_then (word_whole word.Getelementptr)
     (blank_next (behind (kept_back (gep_head scale.sizes) head)
     (comma_next (typed_val r Ptr base h.0 (comma_next (behind (kept_back (indices scale.indices) index) (tail_next rest)))))))
+inst_back r scale (Step base offset terms head index rest) h =
+    token_then (word_whole word.Getelementptr)
+    (blank_next (behind (kept_back (gep_head scale.sizes) head)
+    (comma_next (typed_val r Ptr base h.0 (comma_next (behind
+    (woven_other scale.items (map index_text terms) (map index_text (map (renamed_index r) terms)) index (same_count r terms)
+    (terms_whole scale.sizes scale.items (map (renamed_index r) terms) h.2) (terms_local scale.sizes scale.items (map (renamed_index r) terms) h.2))
+    (tail_next rest)))))))
 inst_back r scale (Load ty ptr rest) h =
     token_then (word_whole word.Load) (blank_next (token_then (type_whole ty) (comma_next (typed_val r Ptr ptr h.1 (tail_next rest)))))
 inst_back r scale (Store ty val ptr rest) h =

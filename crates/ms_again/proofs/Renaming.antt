@@ -6,8 +6,9 @@ use Rattle.ms_grammar.specs.declared.line.RawVal.{RawVal}
 use Rattle.ms_grammar.specs.declared.line.RawVal.TheVariants.{Num, Local, Global}
 use Rattle.ms_grammar.specs.declared.line.RawArg.{RawArg}
 use Rattle.ms_grammar.specs.declared.line.RawEntry.{RawEntry}
+use Rattle.ms_grammar.specs.declared.line.RawIndex.{RawIndex}
 use Rattle.ms_grammar.specs.declared.line.RawInst.{RawInst}
-use Rattle.ms_grammar.specs.declared.line.RawInst.TheVariants.{Alloca, Gep, Load, Store, Copy, Call, Bin, Cmp, Select, Cast, Phi}
+use Rattle.ms_grammar.specs.declared.line.RawInst.TheVariants.{Alloca, Gep, Step, Load, Store, Copy, Call, Bin, Cmp, Select, Cast, Phi}
 use Rattle.ms_grammar.specs.declared.line.RawTerm.{RawTerm}
 use Rattle.ms_grammar.specs.declared.line.RawTerm.TheVariants.{Br, CondBr, Ret, Unreachable}
 
@@ -27,9 +28,13 @@ renamed_arg r a = record { ty = a.ty; val = renamed_val r a.val; text = a.text }
 abbrev pub renamed_entry : Renaming → RawEntry → RawEntry
 renamed_entry r e = record { val = renamed_val r e.val; from = r.block e.from }
 
+abbrev pub renamed_index : Renaming → RawIndex → RawIndex
+renamed_index r t = record { val = renamed_val r t.val; ty = t.ty; scale = t.scale }
+
 abbrev pub renamed_inst : Renaming → RawInst → RawInst
 renamed_inst r (Alloca size head rest) = Alloca size head rest
 renamed_inst r (Gep base offset head index rest) = Gep (renamed_val r base) offset head index rest
+renamed_inst r (Step base offset terms head index rest) = Step (renamed_val r base) offset (map (renamed_index r) terms) head index rest
 renamed_inst r (Load ty ptr rest) = Load ty (renamed_val r ptr) rest
 renamed_inst r (Store ty val ptr rest) = Store ty (renamed_val r val) (renamed_val r ptr) rest
 renamed_inst r (Copy to from len head behind rest) = Copy (renamed_arg r to) (renamed_arg r from) len head behind rest

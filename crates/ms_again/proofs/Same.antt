@@ -9,6 +9,7 @@ use Rattle.ms_ir.specs.declared.names.Param.{Param}
 use Rattle.ms_ir.specs.declared.inst.Val.TheVariants as val
 use Rattle.ms_ir.specs.declared.inst.Arg.{Arg}
 use Rattle.ms_ir.specs.declared.inst.Entry.{Entry}
+use Rattle.ms_ir.specs.declared.inst.IndexTerm.{IndexTerm}
 use Rattle.ms_ir.specs.declared.inst.Effects.{Effects}
 use Rattle.ms_ir.specs.declared.inst.Inst.{Inst}
 use Rattle.ms_ir.specs.declared.inst.Inst.TheVariants as inst
@@ -28,20 +29,21 @@ use Rattle.ms_grammar.specs.declared.line.RawVal.{RawVal}
 use Rattle.ms_grammar.specs.declared.line.RawVal.TheVariants.{Num, Local, Global}
 use Rattle.ms_grammar.specs.declared.line.RawArg.{RawArg}
 use Rattle.ms_grammar.specs.declared.line.RawEntry.{RawEntry}
+use Rattle.ms_grammar.specs.declared.line.RawIndex.{RawIndex}
 use Rattle.ms_grammar.specs.declared.line.RawInst.{RawInst}
-use Rattle.ms_grammar.specs.declared.line.RawInst.TheVariants.{Alloca, Gep, Load, Store, Copy, Call, Bin, Cmp, Select, Cast, Phi}
+use Rattle.ms_grammar.specs.declared.line.RawInst.TheVariants.{Alloca, Gep, Step, Load, Store, Copy, Call, Bin, Cmp, Select, Cast, Phi}
 use Rattle.ms_grammar.specs.declared.line.RawTerm.{RawTerm}
 use Rattle.ms_grammar.specs.declared.line.RawTerm.TheVariants.{Br, CondBr, Ret, Unreachable}
 use Rattle.ms_attrs.specs.Effects.{both}
 use Rattle.ms_resolve.specs.Shape.{InstLine, BlockLines, FuncLines, ItemLines, plain, body}
 use Rattle.ms_resolve.specs.Made.{makes, locals_of, blocks_of}
-use Rattle.ms_resolve.specs.Used.{values_of, term_values, inst_blocks, term_blocks, arg_value, entry_value, entry_block}
+use Rattle.ms_resolve.specs.Used.{values_of, term_values, inst_blocks, term_blocks, arg_value, index_value, entry_value, entry_block}
 use Rattle.ms_resolve.specs.Faults.{line_symbols, symbols_of, name_of_symbol}
-use Rattle.ms_resolve.specs.Scope.{Scope, number_of_name, value_of, block_of, is_pointer, arg_of, args_of, entry_of, keeps_at, behind_first, marks_of, effects_of_sig, sig_of, number_of_word, inst_of, term_of, local_behind, locals_behind, all_made, all_locals, mark_of}
+use Rattle.ms_resolve.specs.Scope.{Scope, number_of_name, value_of, block_of, is_pointer, arg_of, args_of, entry_of, index_of, keeps_at, behind_first, marks_of, effects_of_sig, sig_of, number_of_word, inst_of, term_of, local_behind, locals_behind, all_made, all_locals, mark_of}
 use Rattle.ms_resolve.specs.Module.{group_of, groups_of, func_names_in, global_names_in, names_of, sigs_in, items_from, bodies_in}
 use Rattle.ms_print.specs.Numbering.{shown_name, free_after, shown_params}
 use Rattle.ms_again.specs.Same.{own_name, plain_param}
-use Rattle.ms_again.proofs.Renaming.{Renaming, renamed_val, renamed_arg, renamed_entry, renamed_inst, renamed_term}
+use Rattle.ms_again.proofs.Renaming.{Renaming, renamed_val, renamed_arg, renamed_entry, renamed_index, renamed_inst, renamed_term}
 use Rattle.ms_again.proofs.Fine.{made_name}
 use Rattle.ms_again.proofs.Right.{shown_next}
 use Rattle.ms_again.proofs.Names.{shown, label_name, inst_free, block_free, locals_listed, blocks_listed, blocks_size}
@@ -212,10 +214,20 @@ entries_same s f e b (x ∷ es) h k =
     ∙ ap (λ n. let d : Entry = record { val = value_of s x.val; from = record { 0 = n } } in d ∷ rest) (block_same s f b x.from k.0)
     ∙ ap (λ (more : List Entry). entry_of s x ∷ more) (entries_same s f e b es h.1 k.1)
 
+terms_same : (s : Scope) (f : FuncLines) → s.locals ≡ locals_of f → (terms : List RawIndex) → Each (IsRightVal f) (map index_value terms) →
+    map (index_of (shown_scope s f)) (map (renamed_index (renaming f)) terms) ≡ map (index_of s) terms
+terms_same s f e [] h = refl
+terms_same s f e (t ∷ terms) h =
+    ap (λ v. let d : IndexTerm = record { val = v; ty = t.ty; scale = t.scale } in d ∷ map (index_of (shown_scope s f)) (map (renamed_index (renaming f)) terms)) (val_same s f e t.val h.0)
+    ∙ ap (λ (more : List IndexTerm). index_of s t ∷ more) (terms_same s f e terms h.1)
+
 pub inst_same : (s : Scope) (f : FuncLines) → s.locals ≡ locals_of f → s.blocks ≡ blocks_of f → (i : RawInst) → IsRightUse f (values_of i) (inst_blocks i) →
     inst_of (shown_scope s f) (renamed_inst (renaming f) i) ≡ inst_of s i
 inst_same s f e b (Alloca size head rest) h = refl
 inst_same s f e b (Gep base offset head index rest) h = ap (λ v. inst.Gep v offset head index rest) (val_same s f e base h.vals.0)
+inst_same s f e b (Step base offset terms head index rest) h =
+    ap (λ v. inst.Step v offset (map (index_of (shown_scope s f)) (map (renamed_index (renaming f)) terms)) head index rest) (val_same s f e base h.vals.0)
+    ∙ ap (λ (ts : List IndexTerm). inst.Step (value_of s base) offset ts head index rest) (terms_same s f e terms h.vals.1)
 inst_same s f e b (Load ty ptr rest) h = ap (λ v. inst.Load ty v rest) (val_same s f e ptr h.vals.0)
 inst_same s f e b (Store ty v ptr rest) h =
     ap (λ w. inst.Store ty w (value_of (shown_scope s f) (renamed_val (renaming f) ptr)) rest) (val_same s f e v h.vals.0)

@@ -11,22 +11,24 @@ use Rattle.ms_ir.specs.declared.names.Ty.{Ty}
 use Rattle.ms_ir.specs.declared.names.Ty.TheVariants.{I1, Ptr}
 use Rattle.ms_ir.specs.declared.inst.Effects.{Effects}
 use Rattle.ms_ir.specs.Func.{FuncState}
-use Rattle.ms_grammar.specs.Kept.{Each}
+use Rattle.ms_grammar.specs.Kept.{Each, IndexItem}
+use Rattle.ms_grammar.specs.Kept.IndexItem.{constant as a_number, term as a_local}
 use Rattle.ms_grammar.specs.Form.{Scale, name_text}
-use Rattle.ms_grammar.specs.Fits.{IsNamed, IsWordName, IsValue, IsArg, IsEntryOf, FitsInst, FitsTerm}
+use Rattle.ms_grammar.specs.Fits.{IsNamed, IsWordName, IsValue, IsArg, IsEntryOf, IsLocal, AreTerms, FitsInst, FitsTerm}
 use Rattle.ms_grammar.specs.declared.line.Line.{Line}
 use Rattle.ms_grammar.specs.declared.line.Line.TheVariants as said
 use Rattle.ms_grammar.specs.declared.line.RawVal.{RawVal}
 use Rattle.ms_grammar.specs.declared.line.RawVal.TheVariants.{Num, Local, Global}
 use Rattle.ms_grammar.specs.declared.line.RawArg.{RawArg}
 use Rattle.ms_grammar.specs.declared.line.RawEntry.{RawEntry}
+use Rattle.ms_grammar.specs.declared.line.RawIndex.{RawIndex}
 use Rattle.ms_grammar.specs.declared.line.RawInst.{RawInst}
-use Rattle.ms_grammar.specs.declared.line.RawInst.TheVariants.{Alloca, Gep, Load, Store, Copy, Call, Bin, Cmp, Select, Cast, Phi}
+use Rattle.ms_grammar.specs.declared.line.RawInst.TheVariants.{Alloca, Gep, Step, Load, Store, Copy, Call, Bin, Cmp, Select, Cast, Phi}
 use Rattle.ms_grammar.specs.declared.line.RawTerm.{RawTerm}
 use Rattle.ms_grammar.specs.declared.line.RawTerm.TheVariants.{Br, CondBr, Ret, Unreachable}
 use Rattle.ms_resolve.specs.Shape.{InstLine, BlockLines, FuncLines, ItemLines, plain, body, label_lines, inst_line, block_lines, func_lines}
 use Rattle.ms_resolve.specs.Made.{locals_of, blocks_of}
-use Rattle.ms_resolve.specs.Used.{Names, values_of, term_values, inst_blocks, term_blocks, arg_value, entry_value, entry_block}
+use Rattle.ms_resolve.specs.Used.{Names, values_of, term_values, inst_blocks, term_blocks, arg_value, index_value, entry_value, entry_block}
 use Rattle.ms_resolve.specs.Faults.{IsIn, IsNotIn, Symbol, symbols_of, item_symbols, name_of_symbol, StandsAt, HasNameFault}
 use Rattle.ms_resolve.specs.Faults as named
 use Rattle.ms_resolve.specs.Cause.{NoNameFault}
@@ -37,8 +39,8 @@ use Rattle.ms_resolve.proofs.FirstFacts.{first_local, first_block}
 use Rattle.ms_resolve.proofs.Members.{Among, among_in, in_among, there_word, word_there_any}
 use Rattle.ms_resolve.proofs.PlaceLemmas.{seek, seek_is}
 use Rattle.ms_print.specs.Lines.{word_at, text_in}
-use Rattle.ms_valid.specs.Faults.{IsBody, body_there, bodies_there}
-use Rattle.ms_valid.proofs.ListLemmas.{in_nil, in_here, in_one, in_flat, flat_in, get_map, map_get}
+use Rattle.ms_validity.specs.Faults.{IsBody, body_there, bodies_there}
+use Rattle.ms_validity.proofs.ListLemmas.{in_nil, in_here, in_one, in_flat, flat_in, get_map, map_get}
 use Rattle.ms_again.proofs.Fine.{IsFine, each_first, each_second}
 use Rattle.ms_again.proofs.Right.{known_name, named_same}
 
@@ -138,9 +140,23 @@ named_froms : (ty : Ty) (es : List RawEntry) → Each (IsEntryOf ty) es → Each
 named_froms ty [] h = tt
 named_froms ty (e ∷ es) h = (h.0.1, named_froms ty es h.1)
 
+local_named : (v : RawVal) → IsLocal v → IsNamedVal v
+local_named (Num ty n) h = tt
+local_named (Local n) h = h
+local_named (Global n) h = absurd h
+
+named_terms : (sizes : List ℕ) (items : List IndexItem) (terms : List RawIndex) → AreTerms sizes items terms → Each IsNamedVal (map index_value terms)
+named_terms sizes [] [] h = tt
+named_terms sizes [] (t ∷ terms) h = absurd (cc)
+named_terms [] (item ∷ items) terms h = absurd h
+named_terms (size ∷ sizes) (a_number v ∷ items) terms h = named_terms sizes items terms h
+named_terms (size ∷ sizes) (a_local ty ∷ items) [] h = absurd h
+named_terms (size ∷ sizes) (a_local ty ∷ items) (t ∷ terms) h = (local_named t.val h.0.2, named_terms sizes items terms h.1)
+
 pub inst_values : (scale : Scale) (i : RawInst) → FitsInst scale i → Each IsNamedVal (values_of i)
 inst_values scale (Alloca size head rest) h = tt
 inst_values scale (Gep base offset head index rest) h = (named_val Ptr base h.0, tt)
+inst_values scale (Step base offset terms head index rest) h = (named_val Ptr base h.0, named_terms scale.sizes scale.items terms h.2)
 inst_values scale (Load ty ptr rest) h = (named_val Ptr ptr h.1, tt)
 inst_values scale (Store ty val ptr rest) h = (named_val ty val h.1, (named_val Ptr ptr h.2, tt))
 inst_values scale (Copy to from len head behind rest) h = (named_val to.ty to.val h.2, (named_val from.ty from.val h.3, tt))
@@ -154,6 +170,7 @@ inst_values scale (Phi ty entries rest) h = named_entries ty entries h.1
 pub inst_froms : (scale : Scale) (i : RawInst) → FitsInst scale i → Each IsNamed (inst_blocks i)
 inst_froms scale (Alloca size head rest) h = tt
 inst_froms scale (Gep base offset head index rest) h = tt
+inst_froms scale (Step base offset terms head index rest) h = tt
 inst_froms scale (Load ty ptr rest) h = tt
 inst_froms scale (Store ty val ptr rest) h = tt
 inst_froms scale (Copy to from len head behind rest) h = tt

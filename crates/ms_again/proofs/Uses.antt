@@ -12,7 +12,7 @@ use Rattle.ms_grammar.specs.declared.line.Line.TheVariants as said
 use Rattle.ms_grammar.specs.declared.line.RawVal.{RawVal}
 use Rattle.ms_grammar.specs.declared.line.RawVal.TheVariants.{Num, Local, Global}
 use Rattle.ms_grammar.specs.declared.line.RawInst.{RawInst}
-use Rattle.ms_grammar.specs.declared.line.RawInst.TheVariants.{Alloca, Gep, Load, Store, Copy, Call, Bin, Cmp, Select, Cast, Phi}
+use Rattle.ms_grammar.specs.declared.line.RawInst.TheVariants.{Alloca, Gep, Step, Load, Store, Copy, Call, Bin, Cmp, Select, Cast, Phi}
 use Rattle.ms_resolve.specs.Shape.{LabelLine, InstLine, BlockLines, FuncLines, ItemLines, body, label_lines}
 use Rattle.ms_resolve.specs.Made.{Made, makes, param_made, inst_made, label_made, block_made, made_in, named_in, locals_of, blocks_of, name_of_made}
 use Rattle.ms_resolve.specs.Used.{values_of, term_values, inst_blocks, term_blocks, local_of, inst_names, term_names}
@@ -20,7 +20,7 @@ use Rattle.ms_resolve.specs.Faults.{IsIn, StandsAt}
 use Rattle.ms_resolve.specs.Faults as named
 use Rattle.ms_resolve.specs.Cause.{NoNameFault}
 use Rattle.ms_resolve.proofs.Members.{Among, among_in, among_map}
-use Rattle.ms_valid.proofs.ListLemmas.{in_here, flat_in}
+use Rattle.ms_validity.proofs.ListLemmas.{in_here, flat_in}
 use Rattle.ms_again.proofs.Fine.{IsFine, IsGood, IsGoodVal, IsGoodBlock, each_join}
 use Rattle.ms_again.proofs.Names.{full, shown, named_by, named_full, locals_by, blocks_by, locals_full, blocks_full, locals_listed, blocks_listed, block_names, block_free, params_free, Naming}
 use Rattle.ms_again.proofs.ShownNames.{local_count}
@@ -43,6 +43,7 @@ absent_good = (tt, (omega arith))
 made_named : (n : Name) (i : RawInst) → IsMade n i → MayBeNamed n
 made_named n (Alloca size head rest) h = may_be n h
 made_named n (Gep base offset head index rest) h = may_be n h
+made_named n (Step base offset terms head index rest) h = may_be n h
 made_named n (Load ty ptr rest) h = may_be n h
 made_named n (Store ty val ptr rest) h = subst (λ m. MayBeNamed m) (sym h) tt
 made_named n (Copy to from len head behind rest) h = subst (λ m. MayBeNamed m) (sym h) tt

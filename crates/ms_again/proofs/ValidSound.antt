@@ -20,10 +20,10 @@ use Rattle.ms_resolve.specs.Shape.{InstLine, BlockLines, FuncLines, ItemLines, p
 use Rattle.ms_resolve.specs.Used.{values_of, term_values, global_of, callee_of}
 use Rattle.ms_resolve.specs.Faults.{IsIn}
 use Rattle.ms_resolve.specs.Module.{funcs_of, module_of}
-use Rattle.ms_valid.specs.Cause.{HasNone}
-use Rattle.ms_valid.specs.Faults.{IsBody, HasInst, HasTerm, CallsOtherwise, ReturnsOtherwise, HasTypeFaultIn, HasEdgeFaultIn, HasOrderFaultIn, HasTypeFault, HasEdgeFault, HasOrderFault, IsIrreducible, bodies_there}
-use Rattle.ms_valid.specs.Faults as valid
-use Rattle.ms_valid.proofs.ListLemmas.{get_map, map_get}
+use Rattle.ms_validity.specs.Cause.{HasNone}
+use Rattle.ms_validity.specs.Faults.{IsBody, HasInst, HasTerm, CallsOtherwise, ReturnsOtherwise, HasTypeFaultIn, HasEdgeFaultIn, HasOrderFaultIn, HasTypeFault, HasEdgeFault, HasOrderFault, IsIrreducible, bodies_there}
+use Rattle.ms_validity.specs.Faults as valid
+use Rattle.ms_validity.proofs.ListLemmas.{get_map, map_get}
 use Rattle.ms_again.specs.Same.{plain_func, plain_module}
 use Rattle.ms_again.proofs.Renaming.{renamed_inst, renamed_term}
 use Rattle.ms_again.proofs.Again.{renaming, start, gap_said, func_said, label_said, block_again, func_again, items_again}

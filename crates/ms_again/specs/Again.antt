@@ -4,7 +4,7 @@ use Rattle.ms_grammar.specs.declared.line.Line.{Line}
 use Rattle.ms_ir.specs.Module.{ModuleState}
 use Rattle.ms_print.specs.Text.{module_text}
 use Rattle.ms_read.specs.Draft.{IsDraft}
-use Rattle.ms_valid.specs.Cause.{IsAccepted}
+use Rattle.ms_validity.specs.Cause.{IsAccepted}
 use Rattle.ms_again.specs.Same.{IsSameModule}
 use Rattle.ms_again.specs.Ordered.{IsSameInOrder}
 

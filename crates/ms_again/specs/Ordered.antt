@@ -1,7 +1,7 @@
 -- When two modules are the same though their numbers stand in another order: they differ at most in the numbers of instructions and locals, in typed
 -- numbers, in the numbers that are written for things without a name, and in the room that functions have. Each is put into one order: numbers are given
 -- afresh in the order of the text.
-use Rattle.std.specs.Prelude.{◌≡◌, ◌+◌, ◌-◌, ◌^◌, ◌==◌, ℕ, suc, ℤ, pos, ◌+ℤ◌, ◌-ℤ◌, ◌*ℤ◌, Bool, true, false, List, [], ◌∷◌, length, map, Option, Some, None, if◌then◌else◌, nat_lt, filter}
+use Rattle.std.specs.Prelude.{◌≡◌, ◌+◌, ◌==◌, ℕ, suc, ℤ, ◌+ℤ◌, Bool, true, false, List, [], ◌∷◌, length, map, Option, Some, None, if◌then◌else◌, nat_lt, filter}
 use Rattle.std.specs.List.{flat_map}
 use Rattle.std.specs.Option.{option_map}
 use Rattle.ms_ir.specs.declared.names.Ty.{Ty}
@@ -15,23 +15,12 @@ use Rattle.ms_ir.specs.declared.inst.Inst.{Inst}
 use Rattle.ms_ir.specs.declared.inst.Inst.TheVariants.{Alloca, Gep, Step, Load, Store, Copy, Call, Bin, Cmp, Select, Cast, Phi}
 use Rattle.ms_ir.specs.declared.inst.Term.{Term}
 use Rattle.ms_ir.specs.declared.inst.Term.TheVariants.{Br, CondBr, Ret, Unreachable}
-use Rattle.ms_ir.specs.Types.{bits}
 use Rattle.ms_ir.specs.Func.{Placed, Block, FuncState}
 use Rattle.ms_ir.specs.Module.{ModuleState}
+use Rattle.ms_grammar.specs.Numbers.{number_text}
+use Rattle.ms_grammar.specs.Parts.{filled}
+pub use Rattle.ms_reread.specs.Added.{signed_of, added_by, added_in}
 use Rattle.ms_again.specs.Same.{own_name, plain_param}
-
--- what an index adds to the offset: a number its signed value times the scale, and a local nothing
-abbrev pub signed_of : Ty → ℕ → ℤ
-signed_of ty n = if nat_lt n (2 ^ (bits ty - 1)) then pos n else pos n -ℤ pos (2 ^ bits ty)
-
-abbrev pub added_by : Val → ℕ → ℤ
-added_by (Num ty n) scale = signed_of ty n *ℤ pos scale
-added_by (Local l) scale = pos 0
-added_by (Global g) scale = pos 0
-
-abbrev pub added_in : List IndexTerm → ℤ
-added_in [] = pos 0
-added_in (t ∷ ts) = added_by t.val t.scale +ℤ added_in ts
 
 abbrev pub is_number : Val → Bool
 is_number (Num ty n) = true
@@ -45,10 +34,19 @@ abbrev pub step_of : Val → ℤ → List IndexTerm → List ℕ → List ℕ �
 step_of base offset [] head index tail = Gep base offset head index tail
 step_of base offset (t ∷ ts) head index tail = Step base offset (t ∷ ts) head index tail
 
--- A getelementptr as its line is read: indices that are numbers are summed up in the offset, and where all of them are it is a `Gep`. No line gives a
--- step yet, so its kept index is as it was.
+-- what stands for an index in the kept list: a number's text, and for any other value a percent sign
+abbrev pub kept_value : Val → List ℕ
+kept_value (Num ty n) = number_text ty n
+kept_value (Local l) = 37 ∷ []
+kept_value (Global g) = 37 ∷ []
+
+abbrev pub kept_term : IndexTerm → List ℕ
+kept_term t = kept_value t.val
+
+-- A getelementptr as its line is read: indices that are numbers are summed up in the offset and stand in the kept list, and where all of them are
+-- numbers it is a `Gep`.
 abbrev pub joined : Val → ℤ → List IndexTerm → List ℕ → List ℕ → List ℕ → Inst
-joined base offset terms head index tail = step_of base (offset +ℤ added_in terms) (filter is_open terms) head index tail
+joined base offset terms head index tail = step_of base (offset +ℤ added_in terms) (filter is_open terms) head (filled (map kept_term terms) index) tail
 
 -- an instruction and a terminator with other values
 abbrev pub arg_by : (Val → Val) → Arg → Arg

@@ -5,7 +5,7 @@ ghost use Rattle.ms_ir.specs.Module.{ModuleState};
 ghost use Rattle.ms_print.specs.Text.{module_text};
 ghost use Rattle.ms_read.specs.Draft.{IsDraft};
 ghost use Rattle.ms_resolve.specs.Build.{bare_module};
-ghost use Rattle.ms_valid.specs.Cause.{IsAccepted};
+ghost use Rattle.ms_validity.specs.Cause.{IsAccepted};
 ghost use Rattle.ms_again.specs.Again.{IsReadAgain, IsReadInOrder};
 ghost use Rattle.ms_again.specs.Basis.{IsBasis};
 ghost use Rattle.ms_again.specs.Ordered.{IsSameInOrder};

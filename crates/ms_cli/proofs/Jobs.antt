@@ -1,11 +1,18 @@
 -- A run has one job at most, and what follows from it. The laws of outputs are premises here.
-use Rattle.std.proofs.Common.{◌≡◌, ◌<◌, ◌≤◌, ℕ, List, length, ◌⊎◌, inl, inr, Option, Some, None, IsSome, IfSome, refl, ap, sym, ◌∙◌, subst, arith}
+use Rattle.std.proofs.Common.{◌≡◌, ◌<◌, ◌≤◌, ◌^◌, ℕ, Bool, true, List, [], ◌++◌, length, ◌⊎◌, inl, inr, Option, Some, None, IsSome, IfSome, if◌then◌else◌, refl, ap, sym, ◌∙◌, subst, arith}
+use Rattle.std.specs.Option.{option_map}
 use Rattle.ms_io.specs.Faults.{Rose}
+use Rattle.ms_ir.specs.Module.{ModuleState}
+use Rattle.ms_grammar.specs.declared.line.Line.{Line}
+use Rattle.ms_print.specs.Text.{module_text}
+use Rattle.ms_read.specs.Draft.{IsDraft}
+use Rattle.ms_validity.specs.Cause.{IsAccepted}
+use Rattle.ms_again.specs.Again.{IsReadAgain}
 use Rattle.ms_output.specs.Output.{limit, IsOutput, IsRefusal}
 use Rattle.ms_output.specs.declared.refusal.Refusal.{Refusal}
 use Rattle.ms_output.specs.declared.wanted.Wanted.{Wanted}
-use Rattle.ms_cli.specs.Words.{Asked, asked_of}
-use Rattle.ms_cli.specs.Job.{Job, BadWords, Refuses, Writes, IsLoaded, IsWritten, IsTooLong, IsRefused, IsJob, IsTold, status_of}
+use Rattle.ms_cli.specs.Words.{Asked, asked_of, shows_in, asks_module}
+use Rattle.ms_cli.specs.Job.{Job, BadWords, Refuses, Writes, IsLoaded, IsWritten, IsTooLong, IsRefused, IsJob, IsTold, EndsInModule, status_of}
 use Rattle.ms_cli.specs.Run.{FilesSeen, SinkSeen, IsFailed, HasRun}
 use Rattle.ms_cli.specs.declared.status.Status.{Status}
 use Rattle.ms_cli.specs.declared.status.Status.TheVariants.{Done, Refused, Usage, ReadFault, WriteFault, Memory}
@@ -98,3 +105,36 @@ complete_by one seen out words Usage job r told j read written = inl (ap status_
 complete_by one seen out words ReadFault job r told j read written = absurd (read (failed seen (asked_of words) r.undone.0 r.undone.1))
 complete_by one seen out words WriteFault job r told j read written = absurd (written r.taken.risen)
 complete_by one seen out words Memory job r told j read written = inr refl
+
+-- an accepted module that is printed is read again
+abbrev pub IsReading : Type 0
+IsReading = (bytes : List ℕ) (draft : List (ℕ × Line)) (m : ModuleState) → IsDraft bytes draft → IsAccepted draft m → length (module_text m) < 10 ^ 9 → IsReadAgain m
+
+-- what is written where the module is asked for
+ends_in_module : IsReading → {holds : List ℕ → Option (List ℕ)} {words : List (List ℕ)} {text : List ℕ} → IsWritten holds words text → asks_module words ≡ true → EndsInModule holds words text
+ends_in_module reading {words = words} w asks =
+    let o = w.output in
+    let shown : w.asked.wanted.shows_module ≡ true = ap shows_in (sym w.loaded.asked_is) ∙ asks in
+    record {
+      asked = w.asked;
+      bytes = w.bytes;
+      draft = o.draft;
+      m = o.m;
+      forms = o.written.forms;
+      loaded = w.loaded;
+      read = o.read;
+      accepted = o.accepted;
+      formed = o.written.formed;
+      text_is = o.written.text_is ∙ ap (λ (b : Bool). o.written.forms ++ (if b then module_text o.m else [])) shown;
+      again = reading w.bytes o.draft o.m o.read o.accepted;
+    }
+
+-- a run that is done wrote it
+pub module_by : IsReading → (seen : FilesSeen) (out : SinkSeen) (words : List (List ℕ)) (status : Status) → HasRun seen out words status → status ≡ Done → asks_module words ≡ true
+    → (text : List ℕ) × EndsInModule seen.holds words text × (out.written_after ≡ option_map (λ before. before ++ text) out.written_before)
+module_by reading seen out words Done r done asks = (r.text, ends_in_module reading r.job asks, r.taken.written)
+module_by reading seen out words (Refused n) r done asks = absurd (cc)
+module_by reading seen out words Usage r done asks = absurd (cc)
+module_by reading seen out words ReadFault r done asks = absurd (cc)
+module_by reading seen out words WriteFault r done asks = absurd (cc)
+module_by reading seen out words Memory r done asks = absurd (cc)

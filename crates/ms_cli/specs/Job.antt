@@ -1,5 +1,13 @@
 -- What a run has to do: it is decided by the words, and by what the files hold.
-use Rattle.std.specs.Prelude.{◌≡◌, ◌<◌, ◌≤◌, ℕ, ◌⊎◌, List, length, Option, Some, None, IfSome, IsSome}
+use Rattle.std.specs.Prelude.{◌≡◌, ◌<◌, ◌≤◌, ◌^◌, ℕ, ◌⊎◌, List, ◌++◌, length, Option, Some, None, IfSome, IsSome}
+use Rattle.ms_ir.specs.Module.{ModuleState}
+use Rattle.ms_grammar.specs.declared.line.Line.{Line}
+use Rattle.ms_print.specs.Text.{module_text}
+use Rattle.ms_read.specs.Draft.{IsDraft}
+use Rattle.ms_validity.specs.Cause.{IsAccepted}
+use Rattle.ms_validity.specs.Faults.{bodies_there}
+use Rattle.ms_again.specs.Again.{IsReadAgain}
+use Rattle.ms_output.specs.Forms.{AreForms}
 use Rattle.ms_output.specs.Output.{limit, IsOutput, IsRefusal, IsFuncIn}
 use Rattle.ms_output.specs.declared.refusal.Refusal.{Refusal}
 use Rattle.ms_cli.specs.Words.{Asked, asked_of}
@@ -28,6 +36,21 @@ pub record IsWritten (holds : List ℕ → Option (List ℕ)) (words : List (Lis
   pub bytes : List ℕ
   pub loaded : IsLoaded holds words asked bytes
   pub output : IsOutput asked.wanted bytes text
+
+-- What is written ends in the text of the module that the file's bytes are accepted as; before it stand the printed forms. Where that text is shorter than
+-- 10^9 bytes, so that each number in it has nine digits at most, it is read and accepted as the same module, and as no other, and printed as the same text.
+pub record EndsInModule (holds : List ℕ → Option (List ℕ)) (words : List (List ℕ)) (text : List ℕ) : Type 0 where
+  pub asked : Asked
+  pub bytes : List ℕ
+  pub draft : List (ℕ × Line)
+  pub m : ModuleState
+  pub forms : List ℕ
+  pub loaded : IsLoaded holds words asked bytes
+  pub read : IsDraft bytes draft
+  pub accepted : IsAccepted draft m
+  pub formed : AreForms m.names asked.wanted.prints (bodies_there m) forms
+  pub text_is : text ≡ forms ++ module_text m
+  pub again : length (module_text m) < 10 ^ 9 → IsReadAgain m
 
 -- the file that the words name is too long
 pub record IsTooLong (holds : List ℕ → Option (List ℕ)) (words : List (List ℕ)) (r : Refusal) : Type 0 where

@@ -49,3 +49,11 @@ file_in asked = asked.file
 -- the name of the file that the words name; none where they are not of the command
 abbrev pub file_of : List (List ℕ) → Option (List ℕ)
 file_of words = option_map file_in (asked_of words)
+
+abbrev pub shows_in : Option Asked → Bool
+shows_in None = false
+shows_in (Some asked) = asked.wanted.shows_module
+
+-- whether the words ask for the module's text too
+abbrev pub asks_module : List (List ℕ) → Bool
+asks_module words = shows_in (asked_of words)

@@ -9,3 +9,8 @@ pub mod Listed
 pub mod Same
 pub mod Rises
 pub mod Lows
+pub mod Cuts
+pub mod Kepts
+pub mod Sifted
+pub mod Again
+pub mod Sums

@@ -1,9 +1,9 @@
 -- Tables of targets as graphs.
-use Rattle.std.proofs.Common.{◌≡◌, ℕ, zero, suc, ◌+◌, ◌<◌, ◌≤◌, List, [], ◌∷◌, ◌++◌, length, get_or, take, refl, sym, ap, ◌∙◌, subst, arith}
+use Rattle.std.proofs.Common.{◌≡◌, ℕ, zero, suc, ◌+◌, ◌<◌, ◌≤◌, List, [], ◌∷◌, ◌++◌, length, get_or, set, take, refl, sym, ap, ◌∙◌, subst, arith}
 use Rattle.std.specs.Prelude.{Contains}
 use Rattle.std.proofs.lemmas.List.{take_more, get_or_default}
 use Rattle.std.proofs.lemmas.List.Elements.{Contains-get_or}
-use Rattle.ms_paths.specs.Flow.{HasEdge, IsClosed}
+use Rattle.ms_paths.specs.Flow.{Block as Run, HasEdge, IsClosed}
 use Rattle.ms_ir.specs.Func.{Block}
 use Rattle.ms_ir.specs.Graph.{successors, graph_of}
 use Rattle.ms_flow.specs.declared.table.Targets.{Targets}
@@ -114,3 +114,14 @@ edges_closed bs closed =
           let below = closed.edges_in a b h' in
           omega arith;
     }
+
+-- a block with one target
+pub edges_set_one : (ts : List Targets) (b n : ℕ) → edges (set ts b (One n)) ≡ set (edges ts) b (run_to (n ∷ []))
+edges_set_one [] b n = refl
+edges_set_one (t ∷ ts) zero n = refl
+edges_set_one (t ∷ ts) (suc b) n = ap (λ (l : List Run). run_to (list_of t) ∷ l) (edges_set_one ts b n)
+
+pub within_set_one : (m : ℕ) (ts : List Targets) (b n : ℕ) → AreWithin m ts → n < m → AreWithin m (set ts b (One n))
+within_set_one m [] b n w h = tt
+within_set_one m (t ∷ ts) zero n w h = (h, w.1)
+within_set_one m (t ∷ ts) (suc b) n w h = (w.0, within_set_one m ts b n w.1 h)

@@ -5,9 +5,11 @@ use Rattle.ms_flow.specs.declared.sources.Source.{Source}
 use Rattle.ms_flow.specs.Table.{next_of}
 use Rattle.ms_flow.specs.Walk.{WalkState, is_seen, visit, fresh}
 
--- The blocks have no instructions here: only the edges count.
+-- The blocks have no instructions here: only the edges count. `before` has for each block the places that the edges to it had
+-- before the last cut.
 pub record FlowState : Type 0 where
   pub graph : List Run
+  pub before : List (List ℕ)
 
 -- the walk from the entry
 abbrev pub walked : List Run → WalkState
@@ -91,10 +93,17 @@ pub record AreBehind (g : List Run) (h : ℕ) (passes : List Bool) : Type 0 wher
   pub blocks : length passes ≡ length g
   pub behind : (b : ℕ) → b < length g → IsTrue (slice_index_or passes b false) ↔ IsOnEveryPath g h b
 
--- what the tables of a flow graph tell
-pub record IsFlow (g : List Run) (walk : WalkState) (lists : List (List Source)) (in_slots : List ℕ) (order : List (Option ℕ)) (cyclic : List Bool) (reducible : Bool) : Type 0 where
+-- a place for each edge to each block
+pub record AreRows (g : List Run) (rows : List (List ℕ)) : Type 0 where
+  pub blocks : length rows ≡ length g
+  pub counts : (b : ℕ) → b < length g → length (slice_index_or rows b []) ≡ length (sources_of g b)
+
+-- what the tables of a flow graph tell, and that there is room to make them again
+pub record IsFlow (g : List Run) (walk : WalkState) (lists : List (List Source)) (in_slots : List ℕ) (rows : List (List ℕ)) (order : List (Option ℕ)) (lows : List ℕ) (cyclic : List Bool) (reducible : Bool) : Type 0 where
   pub closed : IsClosed g
   pub walk_blocks : length walk.seen ≡ length g
+  pub rows_are : AreRows g rows
+  pub low_blocks : length lows ≡ length g
   pub listed : AreListed (has_reached g) g (length g) lists in_slots
   pub ordered : AreOrdered g order
   pub on_cycles : AreCycles g cyclic

@@ -2,11 +2,13 @@
 ghost use Rattle.std.specs.Prelude.{◌≡◌, ◌≤◌, ◌<◌, ◌+◌, ◌-◌, ◌^◌, ◌↔◌, ℕ, List, IfOk, IsTrue, MatchOption, Some, length, min, slice_get, slice_index};
 ghost use Rattle.ms_paths.specs.Flow.{IsClosed, IsOnEveryPath, IsReached, IsReducible};
 ghost use Rattle.ms_ir.specs.Graph.{graph_of};
+ghost use Rattle.ms_flow.specs.Flow.{AreCycles, AreListed, AreOrdered, has_reached, walked};
 ghost use Rattle.ms_flow.specs.Table.{edges_of, next_of};
 
+use crate::laws::cut_is_told;
 use crate::loops::loop_table;
-use crate::order::{is_reducible, order_table};
-use crate::search::{behind, cuts, cycles, first_walk};
+use crate::order::{is_reducible, order_again, order_table};
+use crate::search::{behind, count_left, cuts, cycles, first_walk, walk_again};
 use crate::sources::Sources;
 use crate::table::Table;
 use crate::walker::Walker;
@@ -25,7 +27,8 @@ pub struct Edge {
 }
 
 /// The flow graph of a function: the targets of each block by slot, and the edges that lead to each block from reached blocks.
-/// A block is reached where a path from block 0 leads to it. Contracts see it as the graph alone.
+/// A block is reached where a path from block 0 leads to it. Contracts see it as the graph, and the places that edges had before
+/// the last cut.
 #[derive(Drop)]
 pub struct Flow {
     table: Table,
@@ -33,8 +36,10 @@ pub struct Flow {
     order: Vec<Option<u32>>,
     cyclic: Vec<bool>,
     reducible: bool,
-    // for `cuts`
+    // for `cuts` and `drop_edge`
     walker: Walker,
+    // for `drop_edge`
+    lows: Vec<u32>,
 }
 
 impl Model for Flow {
@@ -42,9 +47,9 @@ impl Model for Flow {
 
     ghost Value = { FlowState };
 
-    ghost view = { λ f. record { graph = f.table } };
+    ghost view = { λ f. record { graph = f.table; before = f.sources.before.items } };
 
-    ghost invariant = { λ f. IsFlow f.table f.walker f.sources.lists.items f.sources.in_slots.items f.order.items f.cyclic.items f.reducible };
+    ghost invariant = { λ f. IsFlow f.table f.walker f.sources.lists.items f.sources.in_slots.items f.sources.before.items f.order.items f.lows.items f.cyclic.items f.reducible };
 }
 
 // Counts one edge that is answered.
@@ -54,7 +59,42 @@ fn count_edge(steps: &mut Steps)
     steps.add(1);
 }
 
+// Tells which blocks are on a cycle of reached blocks, and whether the graph is reducible. That it is may be known.
+fn tell_cycles(
+    table: &Table,
+    walker: &mut Walker,
+    sources: &Sources,
+    order: &[Option<u32>],
+    lows: &mut Vec<u32>,
+    cyclic: &mut Vec<bool>,
+    known: bool,
+) -> bool
+    requires closed { IsClosed table.now }
+    requires walked { walker.old ≡ walked table.now }
+    requires blocks { length walker.old.seen ≡ length table.now }
+    requires listed { AreListed (has_reached table.now) table.now (length table.now) sources.now.lists.items sources.now.in_slots.items }
+    requires ordered { AreOrdered table.now order.now }
+    requires low { length lows.old.items ≡ length table.now }
+    requires sized { length cyclic.old.items ≡ length table.now }
+    requires known { IsTrue known → IsReducible table.now }
+    ensures told { IsTrue result ↔ IsReducible table.now }
+    ensures cycles { AreCycles table.now cyclic.new.items }
+    ensures blocks { length walker.new.seen ≡ length table.now }
+    ensures low { length lows.new.items ≡ length table.now }
+{
+    loop_table(table, walker, order, lows, cyclic);
+    if known {
+        return true;
+    }
+    if is_reducible(table, walker, order, sources) {
+        return true;
+    }
+    cycles(table, walker, order, cyclic);
+    false
+}
+
 impl Flow {
+    ghost use Rattle.ms_flow.specs.Cut.{AreBefore, AreOwn, cut_graph, edges_left, place_before};
     ghost use Rattle.ms_flow.specs.Flow.{AreBehind, IsOnCycle, order_of, sources_of};
 
     /// The flow graph of a function, which has a block and whose terminators name its own blocks. It takes all the memory that
@@ -62,17 +102,24 @@ impl Flow {
     /// and more.
     pub fn of(alloc: Global, func: &Func) -> Result<Flow, NoMemory>
         requires { IsClosed (graph_of func.now.blocks) }
-        ensures { IfOk result (λ f. f.graph ≡ edges_of func.now.blocks) }
+        ensures graph { IfOk result (λ f. f.graph ≡ edges_of func.now.blocks) }
+        ensures before { IfOk result (λ f. AreOwn f.graph f.before) }
     {
         let table = Table::of(alloc, func)?;
         let mut walker = first_walk(alloc, &table)?;
         let sources = Sources::of(alloc, &table, &walker)?;
         let order = order_table(alloc, &table, &walker)?;
-        let mut cyclic = loop_table(alloc, &table, &walker, order.as_slice())?;
-        let reducible = is_reducible(&table, &mut walker, order.as_slice(), &sources);
-        if !reducible {
-            cycles(&table, &mut walker, order.as_slice(), &mut cyclic);
-        }
+        let mut lows = Vec::from_elem(alloc, 0u32, table.len() as usize)?;
+        let mut cyclic = Vec::from_elem(alloc, false, table.len() as usize)?;
+        let reducible = tell_cycles(
+            &table,
+            &mut walker,
+            &sources,
+            order.as_slice(),
+            &mut lows,
+            &mut cyclic,
+            false,
+        );
         Ok(Flow {
             table,
             sources,
@@ -80,7 +127,46 @@ impl Flow {
             cyclic,
             reducible,
             walker,
+            lows,
         })
+    }
+
+    /// The edge at a slot of a block that has two targets is cut: 0 is the slot of the target for true, 1 of the one for false. The
+    /// other edge has slot 0 afterwards. Each edge from a block that is still reached is counted as a step. It takes no memory.
+    pub fn drop_edge(&mut self, b: BlockNo, slot: u32, steps: &mut Steps)
+        requires two { length (next_of self.old.graph b.0) ≡ 2 }
+        requires slot { slot < 2 }
+        ensures graph { self.new.graph ≡ cut_graph self.old.graph b.0 slot }
+        ensures before { AreBefore self.old.graph b.0 slot self.new.before }
+        ensures steps { steps.new ≡ min (steps.old + edges_left (cut_graph self.old.graph b.0 slot)) (2 ^ 64 - 1) }
+    {
+        cut_is_told();
+        self.table.bounded();
+        self.table.cut(b.0, slot);
+        walk_again(&self.table, &mut self.walker);
+        steps.add(count_left(&self.table, &self.walker));
+        self.sources.keep(&self.walker, b.0, slot);
+        self.sources.number();
+        order_again(&self.table, &self.walker, &mut self.order);
+        self.reducible = tell_cycles(
+            &self.table,
+            &mut self.walker,
+            &self.sources,
+            self.order.as_slice(),
+            &mut self.lows,
+            &mut self.cyclic,
+            self.reducible,
+        );
+    }
+
+    /// The place that an edge to a block had among the edges to that block before the last `drop_edge`; its own place where none
+    /// was made on this graph.
+    pub fn slot_before(&self, b: BlockNo, slot: u32) -> u32
+        requires block { b.0 < length self.now.graph }
+        requires slot { slot < length (sources_of self.now.graph b.0) }
+        ensures { result ≡ place_before self.now.before b.0 slot }
+    {
+        self.sources.place_before(b.0, slot)
     }
 
     /// How many blocks the function has.

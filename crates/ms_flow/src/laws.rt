@@ -1,8 +1,10 @@
 // Laws of flow graphs, each the contract of a function that does nothing.
-ghost use Rattle.std.specs.Prelude.{◌∷◌, Contains, nat_eq, ◌≡◌, ◌<◌, ℕ, List, ◌↔◌, ◌⊎◌, Some, IsSome, length, slice_get, slice_index, slice_index_or};
+ghost use Rattle.std.specs.Prelude.{◌∷◌, Contains, nat_eq, ◌≡◌, ◌<◌, ℕ, List, ◌↔◌, ◌⊎◌, Some, IsSome, length, slice_get, slice_index, slice_index_or, ◌≤◌, sum_by};
 ghost use Rattle.std.specs.List.{IsDistinct};
 ghost use Rattle.ms_paths.specs.Flow.{Block as Run, HasEdge, IsPath, IsReached, IsWalk, IsOnEveryPath, IsReducible, IsClosed, IsOrder};
-ghost use Rattle.ms_ir.specs.Func.{Block, no_block};
+ghost use Rattle.ms_ir.specs.Changes.{IsCondBr, with_edge_cut};
+ghost use Rattle.ms_ir.specs.Func.{Block, FuncState, no_block};
+ghost use Rattle.ms_flow.specs.Cut.{cut_graph, edge_before, edges_left};
 ghost use Rattle.ms_ir.specs.Graph.{graph_of, successors};
 ghost use Rattle.ms_flow.specs.declared.sources.Source.{Source};
 ghost use Rattle.ms_flow.specs.Table.{edges_of, next_of};
@@ -45,3 +47,22 @@ pub fn sources_told()
     ensures order { (g : List Run) (b i j : ℕ) (d e : Source) → i < j →
         slice_get (sources_of g b) i ≡ Some d → slice_get (sources_of g b) j ≡ Some e → IsBefore d e }
 {}
+
+/// What a cut edge makes of a graph. The graph is that of the function with the edge cut. No edge, no path and no reached block comes,
+/// and each edge to a block stood among those to it before. How many edges leave reached blocks is one number, in whatever order
+/// these are counted.
+pub fn cut_is_told()
+    ensures blocks { (g : List Run) (c slot : ℕ) → length (cut_graph g c slot) ≡ length g }
+    ensures function { (f : FuncState) (b slot : ℕ) → IsCondBr (slice_index_or f.blocks b no_block).term → edges_of (with_edge_cut f b slot).blocks ≡ cut_graph (edges_of f.blocks) b slot }
+    ensures edges { (g : List Run) (c slot a b : ℕ) → length (next_of g c) ≡ 2 → HasEdge (cut_graph g c slot) a b → HasEdge g a b }
+    ensures closed { (g : List Run) (c slot : ℕ) → length (next_of g c) ≡ 2 → IsClosed g → IsClosed (cut_graph g c slot) }
+    ensures reached { (g : List Run) (c slot b : ℕ) → length (next_of g c) ≡ 2 → IsReached (cut_graph g c slot) b → IsReached g b }
+    ensures reducible { (g : List Run) (c slot : ℕ) → length (next_of g c) ≡ 2 → IsReducible g → IsReducible (cut_graph g c slot) }
+    ensures fewer { (g : List Run) (c slot b : ℕ) → IsClosed g → length (next_of g c) ≡ 2 → slot < 2 → length (sources_of (cut_graph g c slot) b) ≤ length (sources_of g b) }
+    ensures stood { (g : List Run) (c slot b : ℕ) (e : Source) → IsClosed g → length (next_of g c) ≡ 2 → slot < 2 → Contains (sources_of (cut_graph g c slot) b) e →
+        Contains (sources_of g b) (edge_before c slot e) }
+    ensures count { (g : List Run) (blocks : List ℕ) → IsClosed g → IsDistinct nat_eq blocks → ((b : ℕ) → Contains blocks b ↔ IsReached g b) →
+        sum_by (λ b. length (next_of g b)) blocks ≡ edges_left g }
+{
+    ms_paths::laws::part_form();
+}

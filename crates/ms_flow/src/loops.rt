@@ -1,7 +1,7 @@
 // Which blocks of a reducible graph are on a cycle, by one pass over its edges. There an edge that does not go up in the order
 // leads to a block that every path to its beginning passes, so a block is on a cycle exactly where edges that go up lead from it to
 // a block with an edge back to it or to one before it.
-ghost use Rattle.std.specs.Prelude.{◌≡◌, ◌<◌, ◌+◌, IfOk, length, reverse, slice_index};
+ghost use Rattle.std.specs.Prelude.{◌≡◌, ◌<◌, ◌+◌, length, reverse, slice_index};
 ghost use Rattle.ms_paths.specs.Flow.{IsClosed, IsReached, IsReducible};
 ghost use Rattle.ms_flow.specs.Table.{next_of};
 ghost use Rattle.ms_flow.specs.Flow.{AreCycles, AreOrdered, place_of, walked};
@@ -10,8 +10,6 @@ ghost use Rattle.ms_flow.specs.Loops.{AreLow, FallsOver, IsLeast, IsLow};
 use crate::laws::order_told;
 use crate::table::Table;
 use crate::walker::Walker;
-use ms_ir::NoMemory;
-use std::alloc::Global;
 
 // The least place to which a block falls over the edge at a slot, where the block that it leads to has its low.
 fn low_over(table: &Table, order: &[Option<u32>], lows: &[u32], b: u32, slot: u32) -> u32
@@ -49,47 +47,42 @@ fn low_of(table: &Table, order: &[Option<u32>], lows: &[u32], b: u32) -> u32
 
 // The lows of all reached blocks, from the blocks that the walk from block 0 has left, the first one first. These have falling
 // places, so each target that goes up has its low before.
-fn lows(
-    alloc: Global,
-    table: &Table,
-    order: &[Option<u32>],
-    left: &[u32],
-) -> Result<Vec<u32>, NoMemory>
+fn lows(table: &Table, order: &[Option<u32>], left: &[u32], lows: &mut Vec<u32>)
     requires closed { IsClosed table.now }
     requires ordered { AreOrdered table.now order.now }
     requires left { reverse left.now ≡ (walked table.now).left }
-    ensures { IfOk result (λ v. AreLow table.now 0 v.items) }
+    requires sized { length lows.old.items ≡ length table.now }
+    ensures { AreLow table.now 0 lows.new.items }
 {
-    let mut lows = Vec::from_elem(alloc, 0u32, table.len() as usize)?;
     for k in 0..left.len() {
         let b = left[k];
         lows[b as usize] = low_of(table, order, lows.as_slice(), b);
     }
-    Ok(lows)
 }
 
-/// For each block whether it is on a cycle of reached blocks, where the graph is reducible.
+/// Writes for each block whether it is on a cycle of reached blocks, where the graph is reducible. The lows are made on the way.
 pub fn loop_table(
-    alloc: Global,
     table: &Table,
     walker: &Walker,
     order: &[Option<u32>],
-) -> Result<Vec<bool>, NoMemory>
+    low: &mut Vec<u32>,
+    cyclic: &mut Vec<bool>,
+)
     requires closed { IsClosed table.now }
     requires walked { walker.now ≡ walked table.now }
     requires ordered { AreOrdered table.now order.now }
-    ensures blocks { IfOk result (λ v. length v.items ≡ length table.now) }
-    ensures cycles { IfOk result (λ v. IsReducible table.now → AreCycles table.now v.items) }
+    requires low { length low.old.items ≡ length table.now }
+    requires sized { length cyclic.old.items ≡ length table.now }
+    ensures low { length low.new.items ≡ length table.now }
+    ensures blocks { length cyclic.new.items ≡ length table.now }
+    ensures cycles { IsReducible table.now → AreCycles table.now cyclic.new.items }
 {
     order_told();
-    let left = walker.left();
-    let lows = lows(alloc, table, order, left)?;
-    let mut cyclic = Vec::from_elem(alloc, false, table.len() as usize)?;
+    lows(table, order, walker.left(), low);
     for b in 0..table.len() {
         cyclic[b as usize] = match order[b as usize] {
-            Some(place) => lows[b as usize] <= place,
+            Some(place) => low[b as usize] <= place,
             None => false,
         };
     }
-    Ok(cyclic)
 }

@@ -11,19 +11,30 @@ use crate::walker::Walker;
 use ms_ir::{Items, NoMemory};
 use std::alloc::Global;
 
-// For each block its place among those that were left, the last one first.
-fn places(alloc: Global, left: &[u32], blocks: u32) -> Result<Vec<Option<u32>>, NoMemory>
-    requires fits { length left.now ≤ blocks }
-    requires below { (k : ℕ) → k < length left.now → slice_index left.now k < blocks }
-    ensures len { IfOk result (λ v. length v.items ≡ blocks) }
-    ensures places { IfOk result (λ v. (b : ℕ) → b < blocks → slice_index_or v.items b None ≡ place_in (reverse left.now) b) }
+// Writes for each block its place among those that were left, the last one first.
+fn places(left: &[u32], order: &mut Vec<Option<u32>>)
+    requires few { length left.now < 2 ^ 32 }
+    requires fits { length left.now ≤ length order.old.items }
+    requires below { (k : ℕ) → k < length left.now → slice_index left.now k < length order.old.items }
+    ensures len { length order.new.items ≡ length order.old.items }
+    ensures places { (b : ℕ) → b < length order.old.items → slice_index_or order.new.items b None ≡ place_in (reverse left.now) b }
 {
-    let mut order = Vec::from_elem(alloc, None, blocks as usize)?;
+    order.fill(None);
     let count = left.len();
     for k in 0..count {
         order[left[k] as usize] = Some((count - 1 - k) as u32);
     }
-    Ok(order)
+}
+
+/// Writes for each block its place in the order of the walk from block 0.
+pub fn order_again(table: &Table, walker: &Walker, order: &mut Vec<Option<u32>>)
+    requires closed { IsClosed table.now }
+    requires walked { walker.now ≡ walked table.now }
+    requires sized { length order.old.items ≡ length table.now }
+    ensures { AreOrdered table.now order.new.items }
+{
+    table.bounded();
+    places(walker.left(), order);
 }
 
 /// For each block its place in the order of the walk from block 0.
@@ -36,7 +47,8 @@ pub fn order_table(
     requires walked { walker.now ≡ walked table.now }
     ensures { IfOk result (λ v. AreOrdered table.now v.items) }
 {
-    let order = places(alloc, walker.left(), table.len())?;
+    let mut order = Vec::from_elem(alloc, None, table.len() as usize)?;
+    order_again(table, walker, &mut order);
     Ok(order)
 }
 

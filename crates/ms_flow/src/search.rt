@@ -1,6 +1,7 @@
 // What walks tell of the blocks.
 ghost use Rattle.std.specs.Prelude.{◌≡◌, ◌<◌, ◌↔◌, ◌⊎◌, ℕ, false, List, ◌∷◌, IfOk, IsTrue, Option, Some, None, is_some, length, slice_index_or};
 ghost use Rattle.ms_paths.specs.Flow.{IsClosed, IsOnEveryPath, IsReached, IsWalk};
+ghost use Rattle.ms_flow.specs.Cut.{edges_left};
 ghost use Rattle.ms_flow.specs.Flow.{AreBehind, AreCycles, AreOrdered, IsOnCycle, walked};
 ghost use Rattle.ms_flow.specs.Walk.{is_seen};
 
@@ -18,6 +19,32 @@ pub fn first_walk(alloc: Global, table: &Table) -> Result<Walker, NoMemory>
     let mut walker = Walker::new(alloc, table.len())?;
     walker.visit(table, 0);
     Ok(walker)
+}
+
+/// The same, with a walker that is there.
+pub fn walk_again(table: &Table, walker: &mut Walker)
+    requires closed { IsClosed table.now }
+    requires blocks { length walker.old.seen ≡ length table.now }
+    ensures walk { walker.new ≡ walked table.now }
+    ensures blocks { length walker.new.seen ≡ length table.now }
+{
+    walker.clear();
+    walker.visit(table, 0);
+}
+
+/// How many edges leave the blocks that the walk from block 0 has left.
+pub fn count_left(table: &Table, walker: &Walker) -> u64
+    requires closed { IsClosed table.now }
+    requires walked { walker.now ≡ walked table.now }
+    ensures { result ≡ edges_left table.now }
+{
+    table.bounded();
+    let left = walker.left();
+    let mut count = 0;
+    for k in 0..left.len() {
+        count += table.count(left[k]) as u64;
+    }
+    count
 }
 
 // Whether every path to b passes h, where the walk was one without h.

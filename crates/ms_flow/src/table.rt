@@ -2,6 +2,7 @@
 ghost use Rattle.std.specs.Prelude.{◌≡◌, ◌≤◌, ◌<◌, ◌^◌, ℕ, IfOk, length, slice_index};
 ghost use Rattle.ms_paths.specs.Flow.{HasEdge, IsClosed};
 ghost use Rattle.ms_ir.specs.Graph.{successors, graph_of};
+ghost use Rattle.ms_flow.specs.Cut.{kept_slot};
 
 use ms_ir::{BlockNo, Func, NoMemory, Steps, Term};
 use std::alloc::Global;
@@ -69,7 +70,15 @@ impl Targets {
     }
 }
 
+// Of two slots the other one.
+fn other_slot(slot: u32) -> u32
+    ensures { result ≡ kept_slot slot }
+{
+    if slot == 0 { 1 } else { 0 }
+}
+
 impl Table {
+    ghost use Rattle.ms_flow.specs.Cut.{cut_graph};
     ghost use Rattle.ms_flow.specs.Table.{edges_of, next_of};
 
     /// The table of a function. For 2^31 blocks and more it answers `NoMemory`.
@@ -89,6 +98,15 @@ impl Table {
             targets.push(Targets::of(func.term(BlockNo(b), &mut steps)))?;
         }
         Ok(Table { targets })
+    }
+
+    /// A block that has two targets has only the one at the other slot.
+    pub fn cut(&mut self, b: u32, slot: u32)
+        requires two { length (next_of self.old b) ≡ 2 }
+        ensures { self.new ≡ cut_graph self.old b slot }
+    {
+        let kept = self.at(b, other_slot(slot));
+        self.targets[b as usize] = Targets::One(kept);
     }
 
     /// How many blocks there are.

@@ -12,7 +12,7 @@ use Rattle.ms_grammar.specs.Fits.{FitsInst, FitsTerm, IsOwnName}
 use Rattle.ms_grammar.specs.declared.line.RawVal.{RawVal}
 use Rattle.ms_grammar.specs.declared.line.RawArg.{RawArg}
 use Rattle.ms_grammar.specs.declared.line.RawInst.{RawInst}
-use Rattle.ms_grammar.specs.declared.line.RawInst.TheVariants.{Alloca, Gep, Load, Store, Copy, Call, Bin, Cmp, Select, Cast, Phi}
+use Rattle.ms_grammar.specs.declared.line.RawInst.TheVariants.{Alloca, Gep, Step, Load, Store, Copy, Call, Bin, Cmp, Select, Cast, Phi}
 use Rattle.ms_grammar.specs.declared.line.RawTerm.{RawTerm}
 use Rattle.ms_grammar.specs.declared.line.RawTerm.TheVariants.{Br, CondBr, Ret, Unreachable}
 use Rattle.ms_grammar.specs.declared.keyword.Keyword.TheVariants as word
@@ -22,6 +22,7 @@ use Rattle.ms_grammar.proofs.Calls.{both_call_head}
 use Rattle.ms_grammar.proofs.Callees.{call_one, copy_one}
 use Rattle.ms_grammar.proofs.Forms.{load_one, store_one, select_one, bin_one, cast_line_one, jump_one, branch_one, ret_one, unreachable_one}
 use Rattle.ms_grammar.proofs.Insts.{alloca_one, gep_one, cmp_one, phi_one}
+use Rattle.ms_grammar.proofs.Indices.{step_one, gep_no_step}
 use Rattle.ms_grammar.proofs.Leads.{lead_is, one_lead}
 
 -- what stands before a memcpy's name could stand before the name of any function that gives nothing
@@ -92,6 +93,10 @@ pub inst_one : (line : List ℕ) (s t : Scale) (i j : RawInst) → FitsInst s i 
 unfolding lead_is
 inst_one line s t (Alloca n a u) (Alloca m b v) f g h = alloca_one line s t n m a b u v h
 inst_one line s t (Gep a m c i u) (Gep b n d j v) f g h = gep_one line s t a b m n c d i j u v f g h
+inst_one line s t (Step a m xs c i u) (Step b n ys d j v) f g h = step_one line s t a b m n xs ys c d i j u v f g h
+inst_one line s t (Gep a m c i u) (Step b n ys d j v) f g h = absurd (gep_no_step line s t a b m n ys c d i j u v f g h)
+inst_one line s t (Step a m xs c i u) (Gep b n d j v) f g h =
+    absurd (gep_no_step line t s b a n m xs d c j i v u g f (flip line (inst_parts s (Step a m xs c i u)) (inst_parts t (Gep b n d j v)) h))
 inst_one line s t (Load ty p u) (Load tz q v) f g h = load_one line s t ty tz p q u v f g h
 inst_one line s t (Store ty a p u) (Store tz b q v) f g h = store_one line s t ty tz a b p q u v f g h
 inst_one line s t (Copy a x n c p u) (Copy b y m d q v) f g h = copy_one line s t a b x y n m c d p q u v f g h

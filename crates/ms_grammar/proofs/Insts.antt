@@ -56,7 +56,7 @@ head_stops line sizes typed rest is =
     let shown : texts line (typed ++ rest) ≡ object_tokens is.counts is.member ++ texts line rest = texts_append line typed rest ∙ ap (λ ts. ts ++ texts line rest) is.tokens in
     subst (λ ts. Stops false ts) (sym shown) (object_stops false is.counts is.member (texts line rest))
 
-both_gep_head : (line : List ℕ) (x y s t : List ℕ) (ps qs : List Part) → Both line (kept (gep_head x) s ∷ ps) (kept (gep_head y) t ∷ qs) → AgreeHead x y s t line ps qs
+pub both_gep_head : (line : List ℕ) (x y s t : List ℕ) (ps qs : List Part) → Both line (kept (gep_head x) s ∷ ps) (kept (gep_head y) t ∷ qs) → AgreeHead x y s t line ps qs
 both_gep_head line x y s t ps qs b =
     let one = b.one.3 in
     let other = b.other.3 in

@@ -13,7 +13,7 @@ use Rattle.ms_grammar.specs.Kept.IsCallMark.{plain as mark_plain, tail as mark_t
 use Rattle.ms_grammar.specs.Parts.{Part, token, Spells, texts}
 use Rattle.ms_grammar.specs.Form.{Scale, inst_parts}
 use Rattle.ms_grammar.specs.declared.line.RawInst.{RawInst}
-use Rattle.ms_grammar.specs.declared.line.RawInst.TheVariants.{Alloca, Gep, Load, Store, Copy, Call, Bin, Cmp, Select, Cast, Phi}
+use Rattle.ms_grammar.specs.declared.line.RawInst.TheVariants.{Alloca, Gep, Step, Load, Store, Copy, Call, Bin, Cmp, Select, Cast, Phi}
 use Rattle.ms_grammar.specs.declared.keyword.Keyword.TheVariants as word
 use Rattle.ms_grammar.proofs.Steps.{tells}
 use Rattle.ms_grammar.proofs.Both.{Both, starts_with, texts_append}
@@ -50,6 +50,7 @@ lead_of s =
 unfoldable pub lead_is : RawInst → Lead
 lead_is (Alloca _ _ _) = an_alloca
 lead_is (Gep _ _ _ _ _) = a_gep
+lead_is (Step _ _ _ _ _ _) = a_gep
 lead_is (Load _ _ _) = a_load
 lead_is (Store _ _ _ _) = a_store
 lead_is (Copy _ _ _ _ _ _) = a_call
@@ -136,6 +137,7 @@ pub inst_lead : (line : List ℕ) (tokens : List Token) (s : Scale) (i : RawInst
 unfolding lead_is
 inst_lead line tokens s (Alloca n a u) h = by_token line tokens (spelling word.Alloca) (rest_of (inst_parts s (Alloca n a u))) an_alloca alloca_lead h
 inst_lead line tokens s (Gep a n b c u) h = by_token line tokens (spelling word.Getelementptr) (rest_of (inst_parts s (Gep a n b c u))) a_gep gep_lead h
+inst_lead line tokens s (Step a n xs b c u) h = by_token line tokens (spelling word.Getelementptr) (rest_of (inst_parts s (Step a n xs b c u))) a_gep gep_lead h
 inst_lead line tokens s (Load ty p u) h = by_token line tokens (spelling word.Load) (rest_of (inst_parts s (Load ty p u))) a_load load_lead h
 inst_lead line tokens s (Store ty a p u) h = by_token line tokens (spelling word.Store) (rest_of (inst_parts s (Store ty a p u))) a_store store_lead h
 inst_lead line tokens s (Copy a x n c p u) h =
@@ -153,6 +155,7 @@ no_lead_is : (i : RawInst) → no_lead ≡ lead_is i → ⊥
 unfolding lead_is
 no_lead_is (Alloca _ _ _) e = cc
 no_lead_is (Gep _ _ _ _ _) e = cc
+no_lead_is (Step _ _ _ _ _ _) e = cc
 no_lead_is (Load _ _ _) e = cc
 no_lead_is (Store _ _ _ _) e = cc
 no_lead_is (Copy _ _ _ _ _ _) e = cc

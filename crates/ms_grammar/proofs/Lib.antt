@@ -6,6 +6,7 @@ pub mod Cuts
 pub mod Digits
 pub mod Forms
 pub mod Heads
+pub mod Indices
 pub mod Instructions
 pub mod Insts
 pub mod Leads

@@ -4,7 +4,7 @@ use Rattle.std.specs.Str.{bytes_eq}
 use Rattle.ms_lex.specs.Kinds.{is_number, is_token}
 use Rattle.ms_lex.specs.declared.token.TokenKind.TheVariants.{Quoted, Group, Meta}
 use Rattle.ms_grammar.specs.Words.{spelling}
-use Rattle.ms_grammar.specs.Scan.{Mode, free, after_word, after_align, after_string, after_equals, after_meta, inside, may_end, is_free, begins, opens, step, walk, Passes}
+use Rattle.ms_grammar.specs.Scan.{Mode, free, after_word, after_align, after_string, after_equals, after_meta, inside, may_end, is_free, begins, step, walk, Passes}
 use Rattle.ms_grammar.specs.declared.keyword.Keyword.TheVariants as word
 
 same_some : (m n : Mode) → Some m ≡ Some n → n ≡ m

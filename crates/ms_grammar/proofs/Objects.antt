@@ -123,7 +123,7 @@ tail_stops (t ∷ (u ∷ us)) many = λ e ty is. no_tail_type ty u is (tail_seco
         let meta : is_token Meta (type_word ty) ≡ true = subst (λ t. is_token Meta t ≡ true) (sym is) e in
         let none = type_no_meta ty in cc
 
-some_one : (v w : ℤ) → Some v ≡ Some w → v ≡ w
+pub some_one : (v w : ℤ) → Some v ≡ Some w → v ≡ w
 some_one v w e = cc
 
 values_one : (indices : List Index) (v w : List ℤ) → AreIndices indices v → AreIndices indices w → v ≡ w

@@ -21,7 +21,7 @@ use Rattle.ms_grammar.specs.declared.line.Head.{Head}
 use Rattle.ms_grammar.specs.declared.line.Line.{Line}
 use Rattle.ms_grammar.specs.declared.line.Line.TheVariants as said
 use Rattle.ms_grammar.specs.declared.line.RawInst.{RawInst}
-use Rattle.ms_grammar.specs.declared.line.RawInst.TheVariants.{Alloca, Gep, Load, Store, Copy, Call, Bin, Cmp, Select, Cast, Phi}
+use Rattle.ms_grammar.specs.declared.line.RawInst.TheVariants.{Alloca, Gep, Step, Load, Store, Copy, Call, Bin, Cmp, Select, Cast, Phi}
 use Rattle.ms_grammar.specs.declared.keyword.Keyword.{Keyword}
 use Rattle.ms_grammar.specs.declared.keyword.Keyword.TheVariants as word
 use Rattle.ms_grammar.specs.Scan.{Stops}
@@ -58,6 +58,7 @@ unnamed_no_local line s i n ps made h =
 made_word : (text : List ℕ) (i : RawInst) → IsMade (name.Word text) i → IsNamed (name.Word text)
 made_word text (Alloca _ _ _) h = h
 made_word text (Gep _ _ _ _ _) h = h
+made_word text (Step _ _ _ _ _ _) h = h
 made_word text (Load _ _ _) h = h
 made_word text (Store _ _ _ _) h = absurd (cc)
 made_word text (Copy _ _ _ _ _ _) h = absurd (cc)
@@ -72,6 +73,7 @@ made_word text (Phi _ _ _) h = h
 made_number : (n : ℕ) (i : RawInst) → IsMade (name.Number n) i → IsNamed (name.Number n)
 made_number n (Alloca _ _ _) h = h
 made_number n (Gep _ _ _ _ _) h = h
+made_number n (Step _ _ _ _ _ _) h = h
 made_number n (Load _ _ _) h = h
 made_number n (Store _ _ _ _) h = absurd (cc)
 made_number n (Copy _ _ _ _ _ _) h = absurd (cc)

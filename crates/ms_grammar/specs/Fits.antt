@@ -13,15 +13,16 @@ use Rattle.ms_ir.specs.declared.inst.CastOp.{CastOp}
 use Rattle.ms_ir.specs.declared.inst.CastOp.TheVariants.{Zext, Sext, Trunc}
 use Rattle.ms_ir.specs.declared.inst.Flags.{Flags}
 use Rattle.ms_grammar.specs.Numbers.{bits}
-use Rattle.ms_grammar.specs.Kept.{Each, IsStored}
+use Rattle.ms_grammar.specs.Kept.{Each, IsStored, IndexItem, constant, term}
 use Rattle.ms_grammar.specs.Form.{Scale, name_text}
 use Rattle.ms_grammar.specs.declared.line.RawVal.{RawVal}
 use Rattle.ms_grammar.specs.declared.line.RawVal.TheVariants.{Num, Local, Global}
 use Rattle.ms_grammar.specs.declared.line.RawArg.{RawArg}
 use Rattle.ms_grammar.specs.declared.line.RawEntry.{RawEntry}
+use Rattle.ms_grammar.specs.declared.line.RawIndex.{RawIndex}
 use Rattle.ms_grammar.specs.declared.line.Head.{Head}
 use Rattle.ms_grammar.specs.declared.line.RawInst.{RawInst}
-use Rattle.ms_grammar.specs.declared.line.RawInst.TheVariants.{Alloca, Gep, Load, Store, Copy, Call, Bin, Cmp, Select, Cast, Phi}
+use Rattle.ms_grammar.specs.declared.line.RawInst.TheVariants.{Alloca, Gep, Step, Load, Store, Copy, Call, Bin, Cmp, Select, Cast, Phi}
 use Rattle.ms_grammar.specs.declared.line.RawTerm.{RawTerm}
 use Rattle.ms_grammar.specs.declared.line.RawTerm.TheVariants.{Br, CondBr, Ret, Unreachable}
 use Rattle.ms_grammar.specs.declared.line.Line.{Line}
@@ -98,6 +99,30 @@ offset_of [] _ = pos 0
 offset_of (_ ∷ _) [] = pos 0
 offset_of (size ∷ sizes) (index ∷ indices) = (index *ℤ pos size) +ℤ offset_of sizes indices
 
+-- the same where some indices are locals, which add nothing to it
+abbrev pub offset_of_items : List ℕ → List IndexItem → ℤ
+offset_of_items [] items = pos 0
+offset_of_items (size ∷ sizes) [] = pos 0
+offset_of_items (size ∷ sizes) (constant index ∷ items) = (index *ℤ pos size) +ℤ offset_of_items sizes items
+offset_of_items (size ∷ sizes) (term ty ∷ items) = offset_of_items sizes items
+
+-- a local of this type that counts by so many bytes
+abbrev pub IsLocal : RawVal → Type 0
+IsLocal (Num ty n) = ⊥
+IsLocal (Local n) = IsNamed n
+IsLocal (Global n) = ⊥
+
+abbrev pub IsTermOf : Ty → ℕ → RawIndex → Type 0
+IsTermOf ty size t = (t.ty ≡ ty) × (t.scale ≡ size) × IsLocal t.val
+
+-- the locals among indices, each with the bytes of its level
+abbrev pub AreTerms : List ℕ → List IndexItem → List RawIndex → Type 0
+AreTerms sizes [] terms = terms ≡ []
+AreTerms [] (item ∷ items) terms = ⊥
+AreTerms (size ∷ sizes) (constant index ∷ items) terms = AreTerms sizes items terms
+AreTerms (size ∷ sizes) (term ty ∷ items) [] = ⊥
+AreTerms (size ∷ sizes) (term ty ∷ items) (t ∷ terms) = IsTermOf ty size t × AreTerms sizes items terms
+
 -- a word that names no function of the language itself
 abbrev pub IsOwnName : Name → Type 0
 IsOwnName n = IsWordName n × (bytes_eq (take 5 (name_text n)) (codes "llvm.") ≡ false)
@@ -110,6 +135,8 @@ abbrev pub FitsInst : Scale → RawInst → Type 0
 FitsInst scale (Alloca size head rest) = Unit {0}
 FitsInst scale (Gep base offset head index rest) =
     IsValue Ptr base × (length scale.indices ≤ length scale.sizes) × (offset ≡ offset_of scale.sizes scale.indices)
+FitsInst scale (Step base offset terms head index rest) =
+    IsValue Ptr base × (terms ≢ []) × AreTerms scale.sizes scale.items terms × (offset ≡ offset_of_items scale.sizes scale.items)
 FitsInst scale (Load ty ptr rest) = IsStored ty × IsValue Ptr ptr
 FitsInst scale (Store ty val ptr rest) = IsStored ty × IsValue ty val × IsValue Ptr ptr
 FitsInst scale (Copy to from len head behind rest) = (to.ty ≡ Ptr) × (from.ty ≡ Ptr) × IsArg to × IsArg from
@@ -128,7 +155,15 @@ IsMade n (Store _ _ _ _) = n ≡ name.Absent
 IsMade n (Copy _ _ _ _ _ _) = n ≡ name.Absent
 IsMade n (Call _ None _ _ _ _) = n ≡ name.Absent
 IsMade n (Call _ (Some _) _ _ _ _) = MayBeNamed n
-IsMade n _ = IsNamed n
+IsMade n (Alloca _ _ _) = IsNamed n
+IsMade n (Gep _ _ _ _ _) = IsNamed n
+IsMade n (Step _ _ _ _ _ _) = IsNamed n
+IsMade n (Load _ _ _) = IsNamed n
+IsMade n (Bin _ _ _ _ _ _) = IsNamed n
+IsMade n (Cmp _ _ _ _ _ _) = IsNamed n
+IsMade n (Select _ _ _ _ _) = IsNamed n
+IsMade n (Cast _ _ _ _ _ _) = IsNamed n
+IsMade n (Phi _ _ _) = IsNamed n
 
 abbrev pub FitsTerm : RawTerm → Type 0
 FitsTerm (Br target rest) = IsNamed target
@@ -150,4 +185,4 @@ FitsLine scale (line.Label n) = IsNamed n
 FitsLine scale (line.Declare head) = FitsHead head
 FitsLine scale (line.Define head) = FitsHead head × IsResult head.ret × (head.variadic ≡ false)
 FitsLine scale (line.Inst n inst) = IsMade n inst × FitsInst scale inst
-FitsLine scale (line.Term term) = FitsTerm term
+FitsLine scale (line.Term t) = FitsTerm t

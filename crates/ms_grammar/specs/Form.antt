@@ -11,25 +11,28 @@ use Rattle.ms_ir.specs.declared.inst.Pred.{Pred}
 use Rattle.ms_ir.specs.declared.inst.CastOp.{CastOp}
 use Rattle.ms_ir.specs.declared.inst.Flags.{Flags}
 use Rattle.ms_grammar.specs.Words.{spelling, type_word, op_word, predicate_word, cast_word}
-use Rattle.ms_grammar.specs.Parts.{Part, Class, blank, token, flag, number, count, kept, apart, attributes, post, tail, object, gep_head, indices, call_head, copy_head, kept_line, group_line, global_line, result_word, text_of}
+use Rattle.ms_grammar.specs.Kept.{IndexItem}
+use Rattle.ms_grammar.specs.Parts.{Part, Class, blank, token, flag, number, count, kept, apart, woven, part_text, attributes, post, tail, object, gep_head, indices, call_head, copy_head, kept_line, group_line, global_line, result_word, text_of}
 use Rattle.ms_grammar.specs.declared.keyword.Keyword.{Keyword}
 use Rattle.ms_grammar.specs.declared.keyword.Keyword.TheVariants as word
 use Rattle.ms_grammar.specs.declared.line.RawVal.{RawVal}
 use Rattle.ms_grammar.specs.declared.line.RawVal.TheVariants.{Num, Local, Global}
 use Rattle.ms_grammar.specs.declared.line.RawArg.{RawArg}
 use Rattle.ms_grammar.specs.declared.line.RawEntry.{RawEntry}
+use Rattle.ms_grammar.specs.declared.line.RawIndex.{RawIndex}
 use Rattle.ms_grammar.specs.declared.line.Head.{Head}
 use Rattle.ms_grammar.specs.declared.line.RawInst.{RawInst}
-use Rattle.ms_grammar.specs.declared.line.RawInst.TheVariants.{Alloca, Gep, Load, Store, Copy, Call, Bin, Cmp, Select, Cast, Phi}
+use Rattle.ms_grammar.specs.declared.line.RawInst.TheVariants.{Alloca, Gep, Step, Load, Store, Copy, Call, Bin, Cmp, Select, Cast, Phi}
 use Rattle.ms_grammar.specs.declared.line.RawTerm.{RawTerm}
 use Rattle.ms_grammar.specs.declared.line.RawTerm.TheVariants.{Br, CondBr, Ret, Unreachable}
 use Rattle.ms_grammar.specs.declared.line.Line.{Line}
 use Rattle.ms_grammar.specs.declared.line.Line.TheVariants as line
 
--- the bytes of the types of a getelementptr's levels, and its indices
+-- the bytes of the types of a getelementptr's levels, and its indices: as numbers, or, where some are locals, one by one
 pub record Scale : Type 0 where
   pub sizes : List ℕ
   pub indices : List ℤ
+  pub items : List IndexItem
 
 abbrev pub word_part : Keyword → Part
 word_part w = token (spelling w)
@@ -146,11 +149,18 @@ conversion_parts from a to rest = typed_parts from a ++ blank ∷ word_part word
 abbrev pub pair_parts : Ty → RawVal → RawVal → List Part
 pair_parts ty a b = typed_parts ty a ++ comma_parts ++ value_part b ∷ []
 
+-- what stands in the place of a local among indices
+abbrev pub index_text : RawIndex → List ℕ
+index_text t = part_text (value_part t.val)
+
 abbrev pub inst_parts : Scale → RawInst → List Part
 inst_parts scale (Alloca size head rest) = word_part word.Alloca ∷ blank ∷ kept (object size) head ∷ kept tail rest ∷ []
 inst_parts scale (Gep base offset head index rest) =
     word_part word.Getelementptr ∷ blank ∷ kept (gep_head scale.sizes) head ∷ comma_parts ++ typed_parts Ptr base
     ++ comma_parts ++ kept (indices scale.indices) index ∷ kept tail rest ∷ []
+inst_parts scale (Step base offset terms head index rest) =
+    word_part word.Getelementptr ∷ blank ∷ kept (gep_head scale.sizes) head ∷ comma_parts ++ typed_parts Ptr base
+    ++ comma_parts ++ woven scale.items (map index_text terms) index ∷ kept tail rest ∷ []
 inst_parts scale (Load ty ptr rest) =
     word_part word.Load ∷ blank ∷ type_part ty ∷ comma_parts ++ typed_parts Ptr ptr ++ kept tail rest ∷ []
 inst_parts scale (Store ty val ptr rest) =
@@ -199,7 +209,7 @@ form scale (line.Inst n inst) = blank ∷ blank ∷ result_parts n ++ inst_parts
 form scale (line.Term term) = blank ∷ blank ∷ term_parts term
 
 abbrev pub no_scale : Scale
-no_scale = record { sizes = []; indices = [] }
+no_scale = record { sizes = []; indices = []; items = [] }
 
 -- the printed form of a line
 abbrev pub printed : Line → List ℕ

@@ -156,6 +156,34 @@ pub record IsIndexList (values : List ℤ) (ts : List (List ℕ)) : Type 0 where
   pub each : AreIndices indices values
   pub tokens : ts ≡ index_tokens indices
 
+-- an index as it counts: a number with its value, or a local of a type
+pub data IndexItem : Type 0 where
+  constant : ℤ → IndexItem
+  term : Ty → IndexItem
+
+-- an index of a type that is a local with this text
+pub record IsTermIndex (index : Index) (ty : Ty) (text : List ℕ) : Type 0 where
+  pub typed : index.ty ≡ ty
+  pub stored : IsStored ty
+  pub a_local : is_token Local index.number ≡ true
+  pub is : index.number ≡ text
+
+-- indices that are these items, the locals among them with these texts
+abbrev pub AreItems : List Index → List IndexItem → List (List ℕ) → Type 0
+AreItems [] [] names = names ≡ []
+AreItems [] (item ∷ items) names = ⊥
+AreItems (i ∷ is) [] names = ⊥
+AreItems (i ∷ is) (constant v ∷ items) names = IsIndex i v × AreItems is items names
+AreItems (i ∷ is) (term ty ∷ items) [] = ⊥
+AreItems (i ∷ is) (term ty ∷ items) (name ∷ names) = IsTermIndex i ty name × AreItems is items names
+
+-- the list of indices that are these items
+pub record AreWoven (items : List IndexItem) (names : List (List ℕ)) (ts : List (List ℕ)) : Type 0 where
+  pub indices : List Index
+  pub some : indices ≢ []
+  pub each : AreItems indices items names
+  pub tokens : ts ≡ index_tokens indices
+
 -- a line that says nothing of memory
 pub data IsKeptLine (ts : List (List ℕ)) : Type 0 where
   source : (name : List ℕ) → is_token Quoted name ≡ true → ts ≡ spelling word.SourceFilename ∷ spelling word.Equals ∷ name ∷ [] → IsKeptLine ts

@@ -1,5 +1,5 @@
 -- The limits of a line, each of which a line of the language may pass.
-use Rattle.std.specs.Prelude.{ℕ, pos, ◌-ℤ◌, ◌≤ℤ◌, ◌≤◌, List, [], ◌∷◌, ◌++◌, Option, Some, None, length}
+use Rattle.std.specs.Prelude.{ℕ, ℤ, pos, ◌-ℤ◌, ◌≤ℤ◌, ◌≤◌, List, [], ◌∷◌, ◌++◌, Option, Some, None, length}
 use Rattle.std.specs.List.{flat_map}
 use Rattle.ms_ir.specs.declared.names.Ty.{Ty}
 use Rattle.ms_ir.specs.declared.names.Param.{Param}
@@ -9,9 +9,10 @@ use Rattle.ms_grammar.specs.declared.line.RawVal.{RawVal}
 use Rattle.ms_grammar.specs.declared.line.RawVal.TheVariants.{Num, Local, Global}
 use Rattle.ms_grammar.specs.declared.line.RawArg.{RawArg}
 use Rattle.ms_grammar.specs.declared.line.RawEntry.{RawEntry}
+use Rattle.ms_grammar.specs.declared.line.RawIndex.{RawIndex}
 use Rattle.ms_grammar.specs.declared.line.Head.{Head}
 use Rattle.ms_grammar.specs.declared.line.RawInst.{RawInst}
-use Rattle.ms_grammar.specs.declared.line.RawInst.TheVariants.{Alloca, Gep, Load, Store, Copy, Call, Bin, Cmp, Select, Cast, Phi}
+use Rattle.ms_grammar.specs.declared.line.RawInst.TheVariants.{Alloca, Gep, Step, Load, Store, Copy, Call, Bin, Cmp, Select, Cast, Phi}
 use Rattle.ms_grammar.specs.declared.line.RawTerm.{RawTerm}
 use Rattle.ms_grammar.specs.declared.line.RawTerm.TheVariants.{Br, CondBr, Ret, Unreachable}
 use Rattle.ms_grammar.specs.declared.line.Line.{Line}
@@ -32,9 +33,13 @@ names_of_param p = name_text p.name ∷ []
 abbrev pub names_of_entry : RawEntry → List (List ℕ)
 names_of_entry e = name_text e.from ∷ names_of_value e.val
 
+abbrev pub names_of_index : RawIndex → List (List ℕ)
+names_of_index t = names_of_value t.val
+
 abbrev pub names_of_inst : RawInst → List (List ℕ)
 names_of_inst (Alloca _ _ _) = []
 names_of_inst (Gep base _ _ _ _) = names_of_value base
+names_of_inst (Step base _ terms _ _ _) = names_of_value base ++ flat_map names_of_index terms
 names_of_inst (Load _ ptr _) = names_of_value ptr
 names_of_inst (Store _ val ptr _) = names_of_value val ++ names_of_value ptr
 names_of_inst (Copy to from _ _ _ _) = names_of_arg to ++ names_of_arg from
@@ -74,12 +79,27 @@ names_of (line.Term term) = names_of_term term
 abbrev pub IsShort : List ℕ → Type 0
 IsShort name = length name ≤ 255
 
--- an alloca has at most 65,536 bytes, a memcpy at most 4,096, and an offset is at most 2^31 either way
+-- an offset is at most 2^31 bytes either way, and so much an index counts by
+abbrev pub IsNearOffset : ℤ → Type 0
+IsNearOffset offset = ((pos 0 -ℤ pos 2147483648) ≤ℤ offset) × (offset ≤ℤ pos 2147483648)
+
+abbrev pub IsSmallTerm : RawIndex → Type 0
+IsSmallTerm t = t.scale ≤ 2147483648
+
+-- an alloca has at most 65,536 bytes, a memcpy at most 4,096
 abbrev pub IsSmallInst : RawInst → Type 0
 IsSmallInst (Alloca size _ _) = size ≤ 65536
-IsSmallInst (Gep _ offset _ _ _) = ((pos 0 -ℤ pos 2147483648) ≤ℤ offset) × (offset ≤ℤ pos 2147483648)
+IsSmallInst (Gep _ offset _ _ _) = IsNearOffset offset
+IsSmallInst (Step _ offset terms _ _ _) = IsNearOffset offset × Each IsSmallTerm terms
+IsSmallInst (Load _ _ _) = Unit {0}
+IsSmallInst (Store _ _ _ _) = Unit {0}
 IsSmallInst (Copy _ _ len _ _ _) = len ≤ 4096
-IsSmallInst _ = Unit {0}
+IsSmallInst (Call _ _ _ _ _ _) = Unit {0}
+IsSmallInst (Bin _ _ _ _ _ _) = Unit {0}
+IsSmallInst (Cmp _ _ _ _ _ _) = Unit {0}
+IsSmallInst (Select _ _ _ _ _) = Unit {0}
+IsSmallInst (Cast _ _ _ _ _ _) = Unit {0}
+IsSmallInst (Phi _ _ _) = Unit {0}
 
 abbrev pub IsSmall : Line → Type 0
 IsSmall (line.Inst _ inst) = IsSmallInst inst

@@ -1,10 +1,10 @@
 -- What a line is made of: how its parts are printed, and which tokens spell them.
-use Rattle.std.specs.Prelude.{◌≡◌, ℕ, ℤ, Bool, List, [], ◌∷◌, ◌++◌, Option, Some, None, if◌then◌else◌, map, slice_range}
+use Rattle.std.specs.Prelude.{◌≡◌, ◌==◌, ℕ, ℤ, Bool, false, List, [], ◌∷◌, ◌++◌, Option, Some, None, if◌then◌else◌, map, slice_range}
 use Rattle.ms_lex.specs.declared.token.Token.{Token}
 use Rattle.ms_ir.specs.declared.names.Ty.{Ty}
 use Rattle.ms_grammar.specs.Words.{spelling, type_word}
 use Rattle.ms_grammar.specs.Numbers.{Means, IsCount, number_text}
-use Rattle.ms_grammar.specs.Kept.{IsAttribute, IsPostItem, IsTailItem, AreMany, IsObject, IsIndexList, IsKeptLine, IsGroupLine, IsGlobalLine, IsCallMark, IsCallType}
+use Rattle.ms_grammar.specs.Kept.{IsAttribute, IsPostItem, IsTailItem, AreMany, IsObject, IsIndexList, IndexItem, AreWoven, IsKeptLine, IsGroupLine, IsGlobalLine, IsCallMark, IsCallType}
 use Rattle.ms_grammar.specs.declared.keyword.Keyword.TheVariants as word
 use Rattle.std.specs.Fmt.{decimal}
 
@@ -23,7 +23,8 @@ pub data Class : Type 0 where
   global_line : List ℕ → Class
 
 -- a part of a line: a blank that only printing writes, a token, a word that stands where a flag is
--- set, a number of a type, a number of 0 or more, kept text, kept text behind a blank
+-- set, a number of a type, a number of 0 or more, kept text, kept text behind a blank, and a list of
+-- indices with texts that stand in the places of its percent signs
 pub data Part : Type 0 where
   blank : Part
   token : List ℕ → Part
@@ -32,11 +33,18 @@ pub data Part : Type 0 where
   count : ℕ → Part
   kept : Class → List ℕ → Part
   apart : Class → List ℕ → Part
+  woven : List IndexItem → List (List ℕ) → List ℕ → Part
 
 -- text behind a blank, and nothing where there is none
 abbrev pub behind_blank : List ℕ → List ℕ
 behind_blank [] = []
 behind_blank (b ∷ bs) = 32 ∷ b ∷ bs
+
+-- a text with these texts in the places of its first percent signs
+abbrev pub filled : List (List ℕ) → List ℕ → List ℕ
+filled [] text = text
+filled (t ∷ ts) [] = []
+filled (t ∷ ts) (b ∷ bs) = if b == 37 then t ++ filled ts bs else b ∷ filled (t ∷ ts) bs
 
 -- how a part is printed
 abbrev pub part_text : Part → List ℕ
@@ -47,6 +55,7 @@ part_text (number ty n) = number_text ty n
 part_text (count n) = decimal n
 part_text (kept class text) = text
 part_text (apart class text) = behind_blank text
+part_text (woven items names index) = filled names index
 
 -- how parts are printed, one behind another
 abbrev pub text_of : List Part → List ℕ
@@ -69,6 +78,26 @@ end_of t (u ∷ us) = end_of u us
 abbrev pub kept_text : List ℕ → List Token → List ℕ
 kept_text line [] = []
 kept_text line (t ∷ ts) = slice_range line t.from (end_of t ts)
+
+-- Tokens with their locals cut to percent signs. What stands before a local is at least a blank, so that a number may take its place.
+abbrev pub is_local : List ℕ → Bool
+is_local [] = false
+is_local (b ∷ bs) = b == 37
+
+abbrev pub gap_or_blank : List ℕ → List ℕ
+gap_or_blank [] = 32 ∷ []
+gap_or_blank (b ∷ bs) = b ∷ bs
+
+abbrev pub cut_token : List ℕ → List ℕ → List ℕ
+cut_token gap s = if is_local s then gap_or_blank gap ++ 37 ∷ [] else gap ++ s
+
+abbrev pub cut_behind : List ℕ → ℕ → List Token → List ℕ
+cut_behind line at [] = []
+cut_behind line at (t ∷ ts) = cut_token (slice_range line at t.from) (bytes_at line t) ++ cut_behind line t.to ts
+
+abbrev pub cut_text : List ℕ → List Token → List ℕ
+cut_text line [] = []
+cut_text line (t ∷ ts) = bytes_at line t ++ cut_behind line t.to ts
 
 -- texts with a blank between two, the empty ones left out
 abbrev pub joined : List (List ℕ) → List ℕ
@@ -139,6 +168,7 @@ SpellsPart line run (number ty n) = (s : List ℕ) × (texts line run ≡ s ∷ 
 SpellsPart line run (count n) = (s : List ℕ) × (texts line run ≡ s ∷ []) × IsCount n s
 SpellsPart line run (kept class text) = InClass class line run text
 SpellsPart line run (apart class text) = InClass class line run text
+SpellsPart line run (woven items names index) = AreWoven items names (texts line run) × (index ≡ cut_text line run)
 
 -- which tokens spell parts, one behind another
 abbrev pub Spells : List ℕ → List Token → List Part → Type 0

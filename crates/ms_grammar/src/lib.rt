@@ -12,6 +12,8 @@ mod line;
 mod write;
 
 pub use keyword::{Keyword, cast_bytes, keyword_bytes, op_bytes, pred_bytes, ty_bytes};
-pub use line::{Head, Line, RawArg, RawArgs, RawEntries, RawEntry, RawInst, RawTerm, RawVal};
+pub use line::{
+    Head, Line, RawArg, RawArgs, RawEntries, RawEntry, RawIndex, RawInst, RawTerm, RawTerms, RawVal,
+};
 pub use ms_attrs::{effects_by, keeps_by};
 pub use write::write_line;

@@ -23,9 +23,19 @@ pub struct RawEntry {
     pub from: Name,
 }
 
+/// An index of a getelementptr that is no number of the offset: its type, its value, and the bytes by which it counts.
+#[derive(Drop)]
+pub struct RawIndex {
+    pub val: RawVal,
+    pub ty: Ty,
+    pub scale: u64,
+}
+
 pub type RawArgs = Items<RawArg>;
 
 pub type RawEntries = Items<RawEntry>;
+
+pub type RawTerms = Items<RawIndex>;
 
 /// A `declare` or `define` line. `ret` is `None` for `void`; `attrs` are the kept attributes before
 /// it, `post` those behind the parameters.
@@ -42,8 +52,10 @@ pub struct Head {
 /// An instruction of a line. `tail` is what is kept behind the form, from its first comma on. The
 /// `head` of an alloca is its type, that of a getelementptr its attributes and its type, and that of
 /// a call or memcpy all that stands before the name of what is called. The `index` of a
-/// getelementptr is its list of indices, and `offset` what they come to in bytes. The `post` of a
-/// call or memcpy are its attributes behind the arguments.
+/// getelementptr is its list of indices, and `offset` what its numbers come to in bytes. It is a
+/// `Step` where some indices are locals: they are its `terms`, and `index` has a percent sign in the
+/// place of each, behind a blank where none stands there. The `post` of a call or memcpy are its
+/// attributes behind the arguments.
 #[derive(Drop)]
 pub enum RawInst {
     Alloca {
@@ -54,6 +66,14 @@ pub enum RawInst {
     Gep {
         base: RawVal,
         offset: i64,
+        head: Text,
+        index: Text,
+        tail: Text,
+    },
+    Step {
+        base: RawVal,
+        offset: i64,
+        terms: RawTerms,
         head: Text,
         index: Text,
         tail: Text,

@@ -1,12 +1,14 @@
 // The printed form of lines.
 ghost use Rattle.std.specs.Prelude.{◌≡◌, ◌*◌, ◌-◌, ◌^◌, ◌<◌, ◌≤◌, ◌++◌, ◌∷◌, [], OnOk, OnErr, None, pos, decimal, map, nat_lt, if◌then◌else◌};
 ghost use Rattle.ms_grammar.specs.Numbers.{number_text, signed_text};
-ghost use Rattle.ms_grammar.specs.Parts.{result_word, behind_blank, text_of, part_text, flag, kept, copy_head, call_head, blank};
+ghost use Rattle.ms_grammar.specs.Parts.{result_word, behind_blank, text_of, part_text, filled, flag, kept, copy_head, call_head, blank};
 ghost use Rattle.ms_grammar.specs.Words.{spelling, type_word};
-ghost use Rattle.ms_grammar.specs.Form.{name_text, value_part, typed_parts, printed, comma_parts, target_parts, result_parts, inst_parts, no_scale, arg_parts, further, listed, entry_parts, named_parts, param_parts, dots_parts, front_parts, head_parts, call_front, brace_parts, copy_pointers, copy_length, end_parts, word_part, global_part, bin_parts, cmp_parts, cast_parts, pair_parts, conversion_parts, ret_parts, term_parts};
+ghost use Rattle.ms_grammar.specs.Form.{name_text, value_part, typed_parts, printed, comma_parts, target_parts, result_parts, inst_parts, no_scale, arg_parts, further, listed, entry_parts, index_text, named_parts, param_parts, dots_parts, front_parts, head_parts, call_front, brace_parts, copy_pointers, copy_length, end_parts, word_part, global_part, bin_parts, cmp_parts, cast_parts, pair_parts, conversion_parts, ret_parts, term_parts};
 
 use crate::keyword::{Keyword, cast_bytes, keyword_bytes, op_bytes, pred_bytes, ty_bytes};
-use crate::line::{Head, Line, RawArg, RawArgs, RawEntry, RawInst, RawTerm, RawVal};
+use crate::line::{
+    Head, Line, RawArg, RawArgs, RawEntry, RawIndex, RawInst, RawTerm, RawTerms, RawVal,
+};
 use core::mem::replace_with;
 use itoa::Buffer;
 use ms_ir::{CastOp, Flags, Name, NoMemory, Op, Param, Pred, Text, Ty};
@@ -418,6 +420,44 @@ fn push_gep(
     Ok(())
 }
 
+// A list of indices, with each term's value in the place of its percent sign.
+fn push_filled(out: &mut Vec<u8>, terms: &[RawIndex], index: &[u8]) -> Result<(), NoMemory>
+    ensures { OnOk result (out.new.items ≡ out.old.items ++ filled (map index_text terms.now) index.now) }
+{
+    let mut left = terms;
+    for byte in index {
+        match left {
+            [term, rest @ ..] if *byte == b'%' => {
+                push_value(out, &term.val)?;
+                left = rest;
+            }
+            _ => out.push(*byte)?,
+        }
+    }
+    Ok(())
+}
+
+fn push_step(
+    out: &mut Vec<u8>,
+    base: &RawVal,
+    terms: &RawTerms,
+    head: &Text,
+    index: &Text,
+    tail: &Text,
+) -> Result<(), NoMemory>
+    ensures { OnOk result (out.new.items ≡ out.old.items
+        ++ text_of (inst_parts no_scale (RawInst.Step base.now (pos 0) terms.now head.now index.now tail.now))) }
+{
+    push_lead(out, Keyword::Getelementptr)?;
+    push_text(out, head)?;
+    push_comma(out)?;
+    push_typed(out, Ty::Ptr, base)?;
+    push_comma(out)?;
+    push_filled(out, terms.as_slice(), index.bytes())?;
+    push_text(out, tail)?;
+    Ok(())
+}
+
 // The pointers of a memcpy, and its opening parenthesis.
 fn push_copy_pointers(out: &mut Vec<u8>, to: &RawArg, from: &RawArg) -> Result<(), NoMemory>
     ensures { OnOk result (out.new.items ≡ out.old.items ++ text_of (copy_pointers to.now from.now)) }
@@ -597,6 +637,14 @@ fn push_inst(out: &mut Vec<u8>, inst: &RawInst) -> Result<(), NoMemory>
             tail,
             ..
         } => push_gep(out, base, head, index, tail)?,
+        RawInst::Step {
+            base,
+            terms,
+            head,
+            index,
+            tail,
+            ..
+        } => push_step(out, base, terms, head, index, tail)?,
         RawInst::Load { ty, ptr, tail } => push_load(out, *ty, ptr, tail)?,
         RawInst::Store { ty, val, ptr, tail } => push_store(out, *ty, val, ptr, tail)?,
         RawInst::Copy {

@@ -11,7 +11,7 @@ use Rattle.ms_grammar.specs.Fits.{IsMade, IsNamed, MayBeNamed, FitsInst}
 use Rattle.ms_grammar.specs.declared.line.Line.{Line}
 use Rattle.ms_grammar.specs.declared.line.Line.TheVariants as said
 use Rattle.ms_grammar.specs.declared.line.RawInst.{RawInst}
-use Rattle.ms_grammar.specs.declared.line.RawInst.TheVariants.{Alloca, Gep, Load, Store, Copy, Call, Bin, Cmp, Select, Cast, Phi}
+use Rattle.ms_grammar.specs.declared.line.RawInst.TheVariants.{Alloca, Gep, Step, Load, Store, Copy, Call, Bin, Cmp, Select, Cast, Phi}
 use Rattle.ms_grammar.specs.declared.line.RawTerm.{RawTerm}
 use Rattle.ms_grammar.specs.declared.keyword.Keyword.TheVariants as word
 use Rattle.ms_grammar.proofs.Both.{skip_blank, starts_with, name_one, behind_first}
@@ -47,6 +47,7 @@ named_some name.Absent h e = h
 pub made_named : (n : Name) (i : RawInst) → (n ≡ name.Absent → ⊥) → IsMade n i → IsNamed n
 made_named n (Alloca _ _ _) some h = h
 made_named n (Gep _ _ _ _ _) some h = h
+made_named n (Step _ _ _ _ _ _) some h = h
 made_named n (Load _ _ _) some h = h
 made_named n (Store _ _ _ _) some h = absurd (some h)
 made_named n (Copy _ _ _ _ _ _) some h = absurd (some h)
@@ -83,9 +84,17 @@ pub past_gep : (line : List ℕ) (tokens : List Token) (i : RawInst) (ts : List 
 unfolding lead_is
 past_gep line tokens (Alloca a b c) ts h e past first n = absurd (cc)
 past_gep line tokens (Gep _ _ _ _ _) ts h e past first n = (λ h. h, λ h. h, refl)
+past_gep line tokens (Step _ _ _ _ _ _) ts h e past first n = (λ h. h, λ h. h, refl)
 past_gep line tokens (Copy a b c d f g) ts h e past first n =
     absurd (let leads : a_gep ≡ a_call = sym gep_lead ∙ lead_at line tokens (Copy a b c d f g) (spelling word.Getelementptr) ts h first in cc)
-past_gep line tokens i ts h e past first n = absurd (past tt)
+past_gep line tokens (Load _ _ _) ts h e past first n = absurd (past tt)
+past_gep line tokens (Store _ _ _ _) ts h e past first n = absurd (past tt)
+past_gep line tokens (Call _ _ _ _ _ _) ts h e past first n = absurd (past tt)
+past_gep line tokens (Bin _ _ _ _ _ _) ts h e past first n = absurd (past tt)
+past_gep line tokens (Cmp _ _ _ _ _ _) ts h e past first n = absurd (past tt)
+past_gep line tokens (Select _ _ _ _ _) ts h e past first n = absurd (past tt)
+past_gep line tokens (Cast _ _ _ _ _ _) ts h e past first n = absurd (past tt)
+past_gep line tokens (Phi _ _ _) ts h e past first n = absurd (past tt)
 
 pub past_copy : (line : List ℕ) (tokens : List Token) (i : RawInst) → SpellInst line tokens i → false ≡ is_alloca i → (IsSmallInst i → ⊥) →
     ((ts : List (List ℕ)) × (texts line tokens ≡ spelling word.Getelementptr ∷ ts) → ⊥) →
@@ -93,8 +102,17 @@ pub past_copy : (line : List ℕ) (tokens : List Token) (i : RawInst) → SpellI
 past_copy line tokens (Alloca _ _ _) h e past first n = absurd (cc)
 past_copy line tokens (Gep a b c d f) h e past first n =
     absurd (first (starts_with line tokens (spelling word.Getelementptr) (rest_of (inst_parts h.scale (Gep a b c d f))) h.spelled))
+past_copy line tokens (Step a b c d f g) h e past first n =
+    absurd (first (starts_with line tokens (spelling word.Getelementptr) (rest_of (inst_parts h.scale (Step a b c d f g))) h.spelled))
 past_copy line tokens (Copy _ _ _ _ _ _) h e past first n = (λ h. h, λ h. h, refl)
-past_copy line tokens i h e past first n = absurd (past tt)
+past_copy line tokens (Load _ _ _) h e past first n = absurd (past tt)
+past_copy line tokens (Store _ _ _ _) h e past first n = absurd (past tt)
+past_copy line tokens (Call _ _ _ _ _ _) h e past first n = absurd (past tt)
+past_copy line tokens (Bin _ _ _ _ _ _) h e past first n = absurd (past tt)
+past_copy line tokens (Cmp _ _ _ _ _ _) h e past first n = absurd (past tt)
+past_copy line tokens (Select _ _ _ _ _) h e past first n = absurd (past tt)
+past_copy line tokens (Cast _ _ _ _ _ _) h e past first n = absurd (past tt)
+past_copy line tokens (Phi _ _ _) h e past first n = absurd (past tt)
 
 mark_lead : (n : List ℕ) → lead_of (37 ∷ n) ≡ a_bin
 unfolding lead_of spelling cast_word
@@ -106,7 +124,15 @@ unfolding lead_is
 local_lead (Store _ _ _ _) e made = cc
 local_lead (Copy _ _ _ _ _ _) e made = cc
 local_lead (Call _ _ _ _ _ _) e made = cc
-local_lead i e made = absurd made
+local_lead (Alloca _ _ _) e made = absurd made
+local_lead (Gep _ _ _ _ _) e made = absurd made
+local_lead (Step _ _ _ _ _ _) e made = absurd made
+local_lead (Load _ _ _) e made = absurd made
+local_lead (Bin _ _ _ _ _ _) e made = absurd made
+local_lead (Cmp _ _ _ _ _ _) e made = absurd made
+local_lead (Select _ _ _ _ _) e made = absurd made
+local_lead (Cast _ _ _ _ _ _) e made = absurd made
+local_lead (Phi _ _ _) e made = absurd made
 
 pub unnamed_no_local : (line : List ℕ) (tokens : List Token) (i : RawInst) (n : List ℕ) (ts : List (List ℕ)) → SpellInst line tokens i → IsMade name.Absent i →
     texts line tokens ≡ (37 ∷ n) ∷ ts → ⊥

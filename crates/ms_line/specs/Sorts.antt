@@ -13,8 +13,17 @@ use Rattle.ms_line.specs.declared.sort.Sort.TheVariants.{Blank, Item, Define, Cl
 
 abbrev pub sort_of_inst : RawInst → Sort
 sort_of_inst (inst.Alloca _ _ _) = Alloca
+sort_of_inst (inst.Gep _ _ _ _ _) = Other
+sort_of_inst (inst.Step _ _ _ _ _ _) = Other
+sort_of_inst (inst.Load _ _ _) = Other
+sort_of_inst (inst.Store _ _ _ _) = Other
+sort_of_inst (inst.Copy _ _ _ _ _ _) = Other
+sort_of_inst (inst.Call _ _ _ _ _ _) = Other
+sort_of_inst (inst.Bin _ _ _ _ _ _) = Other
+sort_of_inst (inst.Cmp _ _ _ _ _ _) = Other
+sort_of_inst (inst.Select _ _ _ _ _) = Other
+sort_of_inst (inst.Cast _ _ _ _ _ _) = Other
 sort_of_inst (inst.Phi _ _ _) = Phi
-sort_of_inst _ = Other
 
 abbrev pub sort_of : Line → Sort
 sort_of line.Empty = Blank

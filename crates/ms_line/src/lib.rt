@@ -10,7 +10,8 @@
 //!   passes its limit, also where it is the name of a parameter that is not kept.
 //! - A number stands from -2^127 to 2^128 - 1; as a value of a type of M bits from -2^(M-1) to 2^M - 1, and
 //!   is held modulo 2^M.
-//! - An alloca takes at most 65,536 bytes, a memcpy at most 4,096, and an offset is at most 2^31 either way.
+//! - An alloca takes at most 65,536 bytes, a memcpy at most 4,096, an offset is at most 2^31 either way, and a local
+//!   among the indices of a getelementptr counts by at most 2^31.
 //!
 //! The time is linear in the length of the line.
 #![tactic(auto)]
@@ -32,8 +33,8 @@ mod sort;
 
 pub use fault::LineFault;
 pub use ms_grammar::{
-    Head, Line, RawArg, RawArgs, RawEntries, RawEntry, RawInst, RawTerm, RawVal, effects_by,
-    keeps_by, write_line,
+    Head, Line, RawArg, RawArgs, RawEntries, RawEntry, RawIndex, RawInst, RawTerm, RawTerms,
+    RawVal, effects_by, keeps_by, write_line,
 };
 pub use read::{read_line, sort_of, sort_of_line};
 pub use sort::Sort;

@@ -1,11 +1,11 @@
 // Whether the names of a line are short enough.
 ghost use Rattle.std.specs.Prelude.{◌≡◌};
 ghost use Rattle.ms_grammar.specs.Form.{name_text};
-ghost use Rattle.ms_grammar.specs.Limits.{names_of_value, names_of_arg, names_of_param, names_of_entry, names_of_inst, names_of_given, names_of_term, names_of_head, names_of};
+ghost use Rattle.ms_grammar.specs.Limits.{names_of_value, names_of_arg, names_of_param, names_of_entry, names_of_index, names_of_inst, names_of_given, names_of_term, names_of_head, names_of};
 ghost use Rattle.std.specs.List.{list_all};
 ghost use Rattle.ms_line.specs.Short.{is_short, are_short};
 
-use ms_grammar::{Head, Line, RawArg, RawEntry, RawInst, RawTerm, RawVal};
+use ms_grammar::{Head, Line, RawArg, RawEntry, RawIndex, RawInst, RawTerm, RawVal};
 use ms_ir::{Name, Param, Ty};
 
 const MOST_BYTES: usize = 255;
@@ -48,6 +48,12 @@ fn are_short_entries(entries: &[RawEntry]) -> bool
     entries.iter().all(|entry| is_short_name(&entry.from) && is_short_value(&entry.val))
 }
 
+fn are_short_terms(terms: &[RawIndex]) -> bool
+    ensures { result ≡ list_all (λ term. are_short (names_of_index term)) terms.now }
+{
+    terms.iter().all(|term| is_short_value(&term.val))
+}
+
 fn are_short_params(params: &[Param]) -> bool
     ensures { result ≡ list_all (λ param. are_short (names_of_param param)) params.now }
 {
@@ -61,6 +67,9 @@ fn is_short_inst(inst: &RawInst) -> bool
     match inst {
         RawInst::Alloca { .. } => true,
         RawInst::Gep { base, .. } => is_short_value(base),
+        RawInst::Step { base, terms, .. } => {
+            is_short_value(base) && are_short_terms(terms.as_slice())
+        }
         RawInst::Load { ptr, .. } => is_short_value(ptr),
         RawInst::Store { val, ptr, .. } => is_short_value(val) && is_short_value(ptr),
         RawInst::Copy { to, from, .. } => is_short_value(&to.val) && is_short_value(&from.val),

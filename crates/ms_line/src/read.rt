@@ -17,8 +17,8 @@ use std::alloc::Global;
 /// The line has fewer than 2^32 bytes. The time is linear in its length.
 ///
 /// `NotOfProfile` comes exactly where the line is in no grammar, `TooLong` exactly where it is in the
-/// grammar and a name has more than 255 bytes, an alloca more than 65,536, a memcpy more than 4,096, or
-/// an offset is more than 2^31 either way.
+/// grammar and a name has more than 255 bytes, an alloca more than 65,536, a memcpy more than 4,096, an
+/// offset is more than 2^31 either way, or a local among indices counts by more than 2^31 bytes.
 pub fn read_line(alloc: Global, line: &[u8]) -> Result<Line, LineFault>
     requires { length line.now < 2 ^ 32 }
     ensures ok { IfOk result (λ l. IsRead line.now l) }

@@ -1,14 +1,14 @@
 -- Fronts that are cut off.
-use Rattle.std.proofs.Common.{◌≡◌, ◌≢◌, ◌*◌, ℕ, ℤ, false, List, [], ◌∷◌, ◌++◌, Option, Some, None, length, refl, sym, ap, subst, ◌∙◌, arith, append_assoc}
+use Rattle.std.proofs.Common.{◌≡◌, ◌≢◌, ◌*◌, ℕ, ℤ, false, List, [], ◌∷◌, ◌++◌, Option, Some, None, map, length, refl, sym, ap, subst, ◌∙◌, arith, append_assoc}
 use Rattle.std.specs.Prelude.{All, take}
 use Rattle.ms_lex.specs.Line.{IsTokenOf}
 use Rattle.ms_lex.specs.declared.token.Token.{Token}
 use Rattle.ms_ir.specs.declared.names.Ty.{Ty}
 use Rattle.ms_grammar.specs.Numbers.{bytes_of, magnitude}
-use Rattle.ms_grammar.specs.Kept.{IsObject, object_tokens, object_sizes, times_first, Index, index_tokens, IsIndexList, AreMany, IsAttribute, IsCallMark, IsCallType}
+use Rattle.ms_grammar.specs.Kept.{IsObject, object_tokens, object_sizes, times_first, Index, AreIndices, AreItems, index_tokens, IsIndexList, IndexItem, constant, AreWoven, AreMany, IsAttribute, IsCallMark, IsCallType}
 use Rattle.ms_grammar.specs.Kept.IsCallMark.{plain, tail as before_tail, no_tail}
 use Rattle.ms_grammar.specs.Scan.{Stops, IsMember, IsListMark}
-use Rattle.ms_grammar.specs.Parts.{Part, kept, tail, object, gep_head, indices, Spells, texts, bytes_at, kept_text, joined}
+use Rattle.ms_grammar.specs.Parts.{Part, kept, woven, tail, object, gep_head, indices, Spells, texts, bytes_at, kept_text, cut_text, joined}
 use Rattle.ms_grammar.proofs.Objects.{object_stops}
 use Rattle.ms_grammar.proofs.Both.{texts_append}
 use Rattle.ms_grammar.proofs.Insts.{rest_tail}
@@ -60,7 +60,7 @@ index_some (i ∷ is) some e = cc
 
 -- a list of indices is not empty
 pub indices_some : (line : List ℕ) (run : List Token) → HasIndices line run → 0 ≡ length run → ⊥
-indices_some line [] p e = index_some p.1.indices p.1.some p.1.tokens
+indices_some line [] p e = index_some p.2.indices p.2.some p.2.tokens
 indices_some line (t ∷ ts) p e = omega arith
 
 -- the type of an object has a size
@@ -163,30 +163,55 @@ gep_on line tokens us mid os vs sizes head ps a b o is h = record {
   );
 }
 
+-- numbers alone are indices
+constants : (is : List Index) (values : List ℤ) → AreIndices is values → AreItems is (map constant values) []
+constants [] [] each = refl
+constants [] (v ∷ vs) each = absurd each
+constants (i ∷ is) [] each = absurd each
+constants (i ∷ is) (v ∷ vs) each = (each.0, constants is vs each.1)
+
+pub numbers_woven : (values : List ℤ) (ts : List (List ℕ)) → IsIndexList values ts → AreWoven (map constant values) [] ts
+numbers_woven values ts h = record { indices = h.indices; some = h.some; each = constants h.indices values h.each; tokens = h.tokens }
+
 -- the indices of a getelementptr
-pub record IndexPart (line : List ℕ) (us vs : List Token) (values : List ℤ) (index rest : List ℕ) : Type 0 where
-  pub list : IsIndexList values (texts line us)
-  pub text : index ≡ kept_text line us
+pub record IndexPart (line : List ℕ) (us vs : List Token) (items : List IndexItem) (names : List (List ℕ)) (rest : List ℕ) : Type 0 where
+  pub list : AreWoven items names (texts line us)
   pub further : Spelt line vs (kept tail rest ∷ [])
 
-pub index_back : (line : List ℕ) (tokens us vs : List Token) (values : List ℤ) (index rest : List ℕ) → Cut (HasIndices line) (HasTail line) line tokens us vs →
-    Spelt line tokens (kept (indices values) index ∷ kept tail rest ∷ []) → IndexPart line us vs values index rest
-index_back line tokens us vs values index rest a h =
-    let s = h.spells in
-    let same = a.one s.0 s.1 s.2 (values, s.3.0) (rest_tail line s.1 rest s.4) in
+part_of : (line : List ℕ) (tokens us vs run left : List Token) (items : List IndexItem) (names : List (List ℕ)) (rest : List ℕ) → Cut (HasIndices line) (HasTail line) line tokens us vs →
+    tokens ≡ run ++ left → AreWoven items names (texts line run) → Spells line left (kept tail rest ∷ []) → IndexPart line us vs items names rest
+part_of line tokens us vs run left items names rest a whole list spells =
+    let same = a.one run left whole (items, names, list) (rest_tail line left rest spells) in
     record {
-      list = subst (λ run. IsIndexList values (texts line run)) same.front s.3.0;
-      text = s.3.1 ∙ ap (λ run. kept_text line run) same.front;
-      further = record { spells = subst (λ r. Spells line r (kept tail rest ∷ [])) same.behind s.4 };
+      list = subst (λ r. AreWoven items names (texts line r)) same.front list;
+      further = record { spells = subst (λ r. Spells line r (kept tail rest ∷ [])) same.behind spells };
     }
+
+pub index_back : (line : List ℕ) (tokens us vs : List Token) (values : List ℤ) (index rest : List ℕ) → Cut (HasIndices line) (HasTail line) line tokens us vs →
+    Spelt line tokens (kept (indices values) index ∷ kept tail rest ∷ []) → IndexPart line us vs (map constant values) [] rest
+index_back line tokens us vs values index rest a h =
+    let s = h.spells in part_of line tokens us vs s.0 s.1 (map constant values) [] rest a s.2 (numbers_woven values (texts line s.0) s.3.0) s.4
+
+pub woven_back : (line : List ℕ) (tokens us vs : List Token) (items : List IndexItem) (names : List (List ℕ)) (index rest : List ℕ) → Cut (HasIndices line) (HasTail line) line tokens us vs →
+    Spelt line tokens (woven items names index ∷ kept tail rest ∷ []) → IndexPart line us vs items names rest
+woven_back line tokens us vs items names index rest a h = let s = h.spells in part_of line tokens us vs s.0 s.1 items names rest a s.2 s.3.0 s.4
 
 pub index_no : (line : List ℕ) (tokens : List Token) (values : List ℤ) (index rest : List ℕ) → NoCut (HasIndices line) (HasTail line) tokens →
     Spelt line tokens (kept (indices values) index ∷ kept tail rest ∷ []) → ⊥
-index_no line tokens values index rest none h = let s = h.spells in none s.0 s.1 s.2 (values, s.3.0) (rest_tail line s.1 rest s.4)
+index_no line tokens values index rest none h =
+    let s = h.spells in none s.0 s.1 s.2 (map constant values, [], numbers_woven values (texts line s.0) s.3.0) (rest_tail line s.1 rest s.4)
+
+pub woven_no : (line : List ℕ) (tokens : List Token) (items : List IndexItem) (names : List (List ℕ)) (index rest : List ℕ) → NoCut (HasIndices line) (HasTail line) tokens →
+    Spelt line tokens (woven items names index ∷ kept tail rest ∷ []) → ⊥
+woven_no line tokens items names index rest none h = let s = h.spells in none s.0 s.1 s.2 (items, names, s.3.0) (rest_tail line s.1 rest s.4)
 
 pub index_on : (line : List ℕ) (tokens us vs : List Token) (values : List ℤ) (index rest : List ℕ) → tokens ≡ us ++ vs → IsIndexList values (texts line us) →
     index ≡ kept_text line us → Spelt line vs (kept tail rest ∷ []) → Spelt line tokens (kept (indices values) index ∷ kept tail rest ∷ [])
 index_on line tokens us vs values index rest whole l is h = record { spells = (us, vs, whole, (l, is), h.spells) }
+
+pub woven_on : (line : List ℕ) (tokens us vs : List Token) (items : List IndexItem) (names : List (List ℕ)) (rest : List ℕ) → tokens ≡ us ++ vs → AreWoven items names (texts line us) →
+    Spelt line vs (kept tail rest ∷ []) → Spelt line tokens (woven items names (cut_text line us) ∷ kept tail rest ∷ [])
+woven_on line tokens us vs items names rest whole l h = record { spells = (us, vs, whole, (l, refl), h.spells) }
 
 -- the words that begin a call are not none
 mark_some : (ts : List (List ℕ)) → IsCallMark ts → ts ≢ []

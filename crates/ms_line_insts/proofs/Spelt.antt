@@ -10,7 +10,7 @@ use Rattle.ms_ir.specs.declared.inst.Flags.{Flags}
 use Rattle.ms_grammar.specs.declared.line.RawVal.{RawVal}
 use Rattle.ms_grammar.specs.declared.line.RawArg.{RawArg}
 use Rattle.ms_grammar.specs.declared.line.RawEntry.{RawEntry}
-use Rattle.ms_grammar.specs.declared.line.RawInst.TheVariants.{Alloca, Gep, Load, Store, Copy, Call, Bin, Cmp, Select, Cast, Phi}
+use Rattle.ms_grammar.specs.declared.line.RawInst.TheVariants.{Alloca, Gep, Step, Load, Store, Copy, Call, Bin, Cmp, Select, Cast, Phi}
 use Rattle.ms_grammar.specs.declared.line.RawTerm.TheVariants.{Br, CondBr, Ret, Unreachable}
 use Rattle.ms_lex.specs.declared.token.Token.{Token}
 use Rattle.ms_grammar.specs.Form.{Scale, inst_parts, term_parts}
@@ -20,6 +20,7 @@ use Rattle.ms_grammar.specs.declared.line.RawTerm.{RawTerm}
 use Rattle.ms_line_insts.specs.Found.{SpellInst, SpellTerm, Tells}
 use Rattle.ms_line_insts.specs.declared.found.FoundInst.{FoundInst}
 use Rattle.ms_line_insts.specs.Front.{Spelt}
+use Rattle.ms_line_insts.specs.GepFronts.{NoPointer}
 
 pub of_term : (line : List ℕ) (tokens : List Token) (term : RawTerm) → SpellTerm line tokens term → Spelt line tokens (term_parts term)
 of_term line tokens term s = record { spells = s.spelled }
@@ -48,7 +49,7 @@ no_term line tokens jump branch nothing value unreached (Unreachable rest) s = u
 -- no instruction of any form
 pub no_inst : (line : List ℕ) (tokens : List Token) →
     ((size : ℕ) (head rest : List ℕ) → SpellInst line tokens (Alloca size head rest) → ⊥) →
-    ((base : RawVal) (offset : ℤ) (head index rest : List ℕ) → SpellInst line tokens (Gep base offset head index rest) → ⊥) →
+    NoPointer line tokens →
     ((ty : Ty) (ptr : RawVal) (rest : List ℕ) → SpellInst line tokens (Load ty ptr rest) → ⊥) →
     ((ty : Ty) (val ptr : RawVal) (rest : List ℕ) → SpellInst line tokens (Store ty val ptr rest) → ⊥) →
     ((to from : RawArg) (len : ℕ) (head post rest : List ℕ) → SpellInst line tokens (Copy to from len head post rest) → ⊥) →
@@ -60,7 +61,8 @@ pub no_inst : (line : List ℕ) (tokens : List Token) →
     ((ty : Ty) (entries : List RawEntry) (rest : List ℕ) → SpellInst line tokens (Phi ty entries rest) → ⊥) →
     (inst : RawInst) → SpellInst line tokens inst → ⊥
 no_inst line tokens alloca gep load store copy call bin cmp select cast phi (Alloca size head rest) s = alloca size head rest s
-no_inst line tokens alloca gep load store copy call bin cmp select cast phi (Gep base offset head index rest) s = gep base offset head index rest s
+no_inst line tokens alloca gep load store copy call bin cmp select cast phi (Gep base offset head index rest) s = gep.of_numbers base offset head index rest s
+no_inst line tokens alloca gep load store copy call bin cmp select cast phi (Step base offset terms head index rest) s = gep.of_variables base offset terms head index rest s
 no_inst line tokens alloca gep load store copy call bin cmp select cast phi (Load ty ptr rest) s = load ty ptr rest s
 no_inst line tokens alloca gep load store copy call bin cmp select cast phi (Store ty val ptr rest) s = store ty val ptr rest s
 no_inst line tokens alloca gep load store copy call bin cmp select cast phi (Copy to from len head post rest) s = copy to from len head post rest s
@@ -84,7 +86,7 @@ read_no_term line tokens (Ok (Some term)) jump branch nothing value last = last
 
 pub read_no_inst : {E : Type 0} (line : List ℕ) (tokens : List Token) (r : Result (Option FoundInst) E) →
     ((size : ℕ) (head rest : List ℕ) → SpellInst line tokens (Alloca size head rest) → ⊥) →
-    ((base : RawVal) (offset : ℤ) (head index rest : List ℕ) → SpellInst line tokens (Gep base offset head index rest) → ⊥) →
+    NoPointer line tokens →
     ((ty : Ty) (ptr : RawVal) (rest : List ℕ) → SpellInst line tokens (Load ty ptr rest) → ⊥) →
     ((ty : Ty) (val ptr : RawVal) (rest : List ℕ) → SpellInst line tokens (Store ty val ptr rest) → ⊥) →
     ((to from : RawArg) (len : ℕ) (head post rest : List ℕ) → SpellInst line tokens (Copy to from len head post rest) → ⊥) →

@@ -1,9 +1,9 @@
 -- Fronts that are cut off by a test on them and on what follows.
-use Rattle.std.specs.Prelude.{◌≡◌, ℕ, ℤ, true, false, List, ◌∷◌, ◌++◌, All}
+use Rattle.std.specs.Prelude.{◌≡◌, ℕ, true, false, List, ◌∷◌, ◌++◌, All}
 use Rattle.ms_lex.specs.Line.{IsTokenOf}
 use Rattle.ms_lex.specs.declared.token.Token.{Token}
 use Rattle.ms_grammar.specs.Parts.{texts, bytes_at}
-use Rattle.ms_grammar.specs.Kept.{AreMany, IsAttribute, IsPostItem, IsTailItem, IsObject, IsIndexList, IsCallMark, IsCallType}
+use Rattle.ms_grammar.specs.Kept.{AreMany, IsAttribute, IsPostItem, IsTailItem, IsObject, IndexItem, AreWoven, IsCallMark, IsCallType}
 use Rattle.ms_grammar.specs.Scan.{Stops, IsMember, IsListMark}
 
 -- one way to cut off a front that passes a test, where what follows passes another: none, or this one
@@ -32,7 +32,7 @@ abbrev pub HasPost : List ℕ → List Token → Type 0
 HasPost line run = AreMany IsPostItem (texts line run)
 
 abbrev pub HasIndices : List ℕ → List Token → Type 0
-HasIndices line run = (values : List ℤ) × IsIndexList values (texts line run)
+HasIndices line run = (items : List IndexItem) × (names : List (List ℕ)) × AreWoven items names (texts line run)
 
 abbrev pub HasTail : List ℕ → List Token → Type 0
 HasTail line run = AreMany IsTailItem (texts line run)

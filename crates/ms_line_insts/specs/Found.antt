@@ -6,7 +6,7 @@ use Rattle.ms_grammar.specs.Fits.{FitsInst, FitsTerm}
 use Rattle.ms_grammar.specs.Limits.{IsSmallInst}
 use Rattle.ms_grammar.specs.Parts.{Spells}
 use Rattle.ms_grammar.specs.declared.line.RawInst.{RawInst}
-use Rattle.ms_grammar.specs.declared.line.RawInst.TheVariants.{Alloca}
+use Rattle.ms_grammar.specs.declared.line.RawInst.TheVariants.{Alloca, Gep, Step, Load, Store, Copy, Call, Bin, Cmp, Select, Cast, Phi}
 use Rattle.ms_grammar.specs.declared.line.RawTerm.{RawTerm}
 use Rattle.ms_line_insts.specs.declared.found.FoundInst.{FoundInst}
 use Rattle.ms_line_insts.specs.declared.found.FoundInst.TheVariants.{Whole, Past}
@@ -24,7 +24,17 @@ pub record SpellTerm (line : List ℕ) (tokens : List Token) (term : RawTerm) : 
 
 abbrev pub is_alloca : RawInst → Bool
 is_alloca (Alloca _ _ _) = true
-is_alloca _ = false
+is_alloca (Gep _ _ _ _ _) = false
+is_alloca (Step _ _ _ _ _ _) = false
+is_alloca (Load _ _ _) = false
+is_alloca (Store _ _ _ _) = false
+is_alloca (Copy _ _ _ _ _ _) = false
+is_alloca (Call _ _ _ _ _ _) = false
+is_alloca (Bin _ _ _ _ _ _) = false
+is_alloca (Cmp _ _ _ _ _ _) = false
+is_alloca (Select _ _ _ _ _) = false
+is_alloca (Cast _ _ _ _ _ _) = false
+is_alloca (Phi _ _ _) = false
 
 -- what is told of an instruction
 abbrev pub Tells : RawInst → FoundInst → Type 0

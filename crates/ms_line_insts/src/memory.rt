@@ -1,12 +1,10 @@
 // Allocas and getelementptrs, each read from its first word on.
-ghost use Rattle.std.specs.Prelude.{◌≡◌, ◌≤◌, ℕ, ℤ, ◌∷◌, [], List, true, false, length, All, IfOk, MatchOption};
+ghost use Rattle.std.specs.Prelude.{◌≡◌, ℕ, ◌∷◌, [], List, All, IfOk, MatchOption};
 ghost use Rattle.ms_lex.specs.Line.{IsTokenOf};
-ghost use Rattle.ms_grammar.specs.Kept.{IsObject, IsIndexList};
-ghost use Rattle.ms_grammar.specs.Parts.{joined, kept_text, texts};
-ghost use Rattle.ms_grammar.specs.declared.line.RawVal.{RawVal};
+ghost use Rattle.ms_grammar.specs.Parts.{joined, kept_text};
 ghost use Rattle.ms_grammar.specs.declared.line.RawInst.{RawInst};
 ghost use Rattle.ms_line_insts.specs.Found.{IsFound, SpellInst};
-ghost use Rattle.ms_line_insts.specs.GepFronts.{NoGepHead, GepCut, NoIndices, Indices};
+ghost use Rattle.ms_line_insts.specs.GepFronts.{NoGepHead, GepCut, NoIndices, Indices, NoPointer};
 
 use crate::cuts::{attributes_cut, indices_cut, object_cut};
 use crate::found::FoundInst;
@@ -38,18 +36,6 @@ pub fn alloca(alloc: Global, line: &[u8], tokens: &[Token]) -> Result<Option<Fou
     };
     let head = ms_line_parts::kept(alloc, line, object)?;
     Ok(Some(FoundInst::Whole(RawInst::Alloca { size, head, tail })))
-}
-
-// Whether a list of indices has no more of them than the type has levels.
-fn fit(line: &[u8], object: &[Token], indices: &[Token]) -> bool
-    requires object { All (IsTokenOf line.now) object.now }
-    requires indices { All (IsTokenOf line.now) indices.now }
-    ensures yes { (sizes : List ℕ) (values : List ℤ) → IsObject sizes (texts line.now object.now) → IsIndexList values (texts line.now indices.now)
-        → result ≡ true → length values ≤ length sizes }
-    ensures no { (sizes : List ℕ) (values : List ℤ) → IsObject sizes (texts line.now object.now) → IsIndexList values (texts line.now indices.now)
-        → result ≡ false → length values ≤ length sizes → ⊥ }
-{
-    ms_line_parts::indices_fit(line, object, indices)
 }
 
 // The kept text of a getelementptr's attributes and type.
@@ -109,17 +95,15 @@ fn indices_end<'a>(
     }
 }
 
-// `getelementptr ATTRIBUTES TYPE, ptr BASE, INDICES`. It is past its limit where the indices come to more than
-// 2^31 bytes either way.
+// `getelementptr ATTRIBUTES TYPE, ptr BASE, INDICES`. It is past its limit where the numbers among the indices come to
+// more than 2^31 bytes either way, or a local counts by more.
 pub fn element_pointer(
     alloc: Global,
     line: &[u8],
     tokens: &[Token],
 ) -> Result<Option<FoundInst>, NoMemory>
     requires { All (IsTokenOf line.now) tokens.now }
-    ensures { IfOk result (λ found. MatchOption found
-        ((base : RawVal) (offset : ℤ) (head index rest : List ℕ) → SpellInst line.now tokens.now (RawInst.Gep base offset head index rest) → ⊥)
-        (IsFound line.now tokens.now)) }
+    ensures { IfOk result (λ found. MatchOption found (NoPointer line.now tokens.now) (IsFound line.now tokens.now)) }
 {
     let Some(((before, object), at_base)) = head_cut(alloc, line, tokens)? else {
         return Ok(None);
@@ -130,17 +114,28 @@ pub fn element_pointer(
     let Some((indices, tail)) = indices_end(alloc, line, at_index)? else {
         return Ok(None);
     };
-    if !fit(line, object, indices) {
+    let Some(terms) = ms_line_parts::index_terms(alloc, line, object, indices)? else {
         return Ok(None);
-    }
-    let Some(offset) = ms_line_parts::offset(line, object, indices) else {
+    };
+    let Some(offset) = ms_line_parts::small_offset(line, object, indices, &terms) else {
         return Ok(Some(FoundInst::Past(false)));
     };
     let head = head_text(alloc, line, before, object)?;
-    let index = ms_line_parts::kept(alloc, line, indices)?;
-    Ok(Some(FoundInst::Whole(RawInst::Gep {
+    if terms.len() == 0 {
+        let index = ms_line_parts::kept(alloc, line, indices)?;
+        return Ok(Some(FoundInst::Whole(RawInst::Gep {
+            base,
+            offset,
+            head,
+            index,
+            tail,
+        })));
+    }
+    let index = ms_line_parts::cut_text(alloc, line, indices)?;
+    Ok(Some(FoundInst::Whole(RawInst::Step {
         base,
         offset,
+        terms,
         head,
         index,
         tail,

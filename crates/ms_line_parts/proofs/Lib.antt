@@ -3,6 +3,7 @@ pub mod Cut
 pub mod Globals
 pub mod Indexing
 pub mod KeptLines
+pub mod Levels
 pub mod Longest
 pub mod Marks
 pub mod Numerals
@@ -14,3 +15,4 @@ pub mod Tailing
 pub mod Texts
 pub mod Totals
 pub mod Values
+pub mod Variables

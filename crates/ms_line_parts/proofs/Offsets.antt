@@ -1,23 +1,27 @@
 -- What indices come to, level by level.
-use Rattle.std.proofs.Common.{◌≡◌, ◌≢◌, ℕ, ℤ, pos, ◌+ℤ◌, ◌*ℤ◌, ◌+◌, ◌*◌, ◌<◌, ◌≤◌, zero, suc, Bool, true, false, ◌&&◌, if◌then◌else◌, is_some, List, [], ◌∷◌, ◌++◌, Some, None, length, drop, refl, sym, ap, subst, ◌∙◌, arith}
+use Rattle.std.proofs.Common.{◌≡◌, ◌≢◌, ℕ, ℤ, pos, ◌+ℤ◌, ◌*ℤ◌, ◌+◌, ◌*◌, ◌<◌, ◌≤◌, zero, suc, Bool, true, false, ◌&&◌, if◌then◌else◌, List, [], ◌∷◌, ◌++◌, Some, None, map, length, drop, refl, sym, ap, subst, ◌∙◌, arith}
 use Rattle.std.specs.Str.{bytes_eq}
 use Rattle.std.proofs.Math.IntN.{*ℤ_comm, *ℤ-zero, suc_ℤ-*ℤ, +ℤ_idr, +ℤ_assoc}
 use Rattle.std.proofs.lemmas.Int.{ints}
+use Rattle.std.proofs.lemmas.List.{length-map}
 use Rattle.ms_ir.specs.declared.names.Ty.{Ty}
 use Rattle.ms_grammar.specs.Words.{spelling, type_word}
-use Rattle.ms_grammar.specs.Numbers.{IsCount, bytes_of, magnitude}
-use Rattle.ms_grammar.specs.Kept.{Each, IsStored, object_tokens, object_sizes, times_first, IsObject, Index, IsIndex, AreIndices, more_indices, index_tokens, IsIndexList}
-use Rattle.ms_grammar.specs.Fits.{offset_of}
+use Rattle.ms_grammar.specs.Numbers.{IsCount, bits, bytes_of, magnitude, signed}
+use Rattle.ms_grammar.specs.Kept.{Each, IsStored, object_tokens, object_sizes, times_first, IsObject, Index, IsIndex, IsTermIndex, IndexItem, constant, term, AreItems, more_indices, index_tokens, AreWoven}
+use Rattle.ms_grammar.specs.Fits.{offset_of, offset_of_items}
+use Rattle.ms_lex.specs.declared.token.TokenKind.TheVariants as kind
 use Rattle.ms_lex.specs.declared.token.Token.{Token}
 use Rattle.ms_grammar.specs.Parts.{texts}
 use Rattle.ms_grammar.specs.declared.keyword.Keyword.TheVariants as word
 use Rattle.ms_grammar.proofs.Steps.{same}
-use Rattle.ms_line_parts.specs.Sizes.{is_count, opens_array, stored_type, bytes_with, typed_value, index_value, cut, array_count, first_bytes}
+use Rattle.ms_line_parts.specs.Sizes.{is_count, opens_array, stored_type, bytes_with, typed_value, index_value, is_index, cut, array_count, first_bytes}
 use Rattle.ms_line_parts.specs.declared.objects.Sum.{Sum}
 use Rattle.ms_line_parts.specs.declared.objects.Sum.TheVariants.{Known, Above, Below}
 use Rattle.ms_line_parts.specs.Sums.{IsSum, first_index, zero_or, next_index, taken, sum_over}
 use Rattle.ms_line_parts.proofs.Sizing.{openings, closings, flat, opens_there, type_square, stored_there}
 use Rattle.ms_line_parts.proofs.Totals.{total}
+use Rattle.ms_line_parts.proofs.OneKind.{no_kind}
+use Rattle.ms_line_parts.proofs.Indexing.{items_there}
 
 -- a bound that is lower
 pub lower : (m n : ℕ) (z : ℤ) (s : Sum) → m ≤ n → IsSum n z s → IsSum m z s
@@ -97,25 +101,55 @@ levels z (n ∷ ns) vs ty = levels ((z *ℤ pos (magnitude n)) +ℤ head_value v
 index_read : (i : Index) (v : ℤ) → IsIndex i v → index_value (type_word i.ty) i.number ≡ Some v
 index_read i v h = ap (λ o. typed_value o i.number) (stored_there i.ty h.stored) ∙ rw h.spelled h.in_range
 
+-- an index with the value that it adds to
+abbrev pub HasValue : Index → ℤ → Type 0
+HasValue i v = (zero_or (index_value (type_word i.ty) i.number) ≡ v) × (is_index (type_word i.ty) i.number ≡ true)
+
+abbrev pub HaveValues : List Index → List ℤ → Type 0
+HaveValues [] [] = Unit {0}
+HaveValues [] (v ∷ vs) = ⊥
+HaveValues (i ∷ is) [] = ⊥
+HaveValues (i ∷ is) (v ∷ vs) = HasValue i v × HaveValues is vs
+
+-- what an index adds
+abbrev pub number_of : IndexItem → ℤ
+number_of (constant v) = v
+number_of (term ty) = pos 0
+
+local_read : (i : Index) (ty : Ty) (name : List ℕ) → IsTermIndex i ty name → zero_or (index_value (type_word i.ty) i.number) ≡ pos 0
+local_read i ty name h =
+    let stored : IsStored i.ty = subst (λ t. IsStored t) (sym h.typed) h.stored in
+    let no_number = no_kind kind.Local kind.Number i.number h.a_local (λ e. cc) in
+    ap (λ o. zero_or (typed_value o i.number)) (stored_there i.ty stored) ∙ ap (λ b. zero_or (if b then signed (bits i.ty) i.number else None)) no_number
+
+values_of : (is : List Index) (items : List IndexItem) (names : List (List ℕ)) → AreItems is items names → HaveValues is (map number_of items)
+values_of [] [] names each = tt
+values_of [] (item ∷ items) names each = absurd each
+values_of (i ∷ is) [] names each = absurd each
+values_of (i ∷ is) (constant v ∷ items) names each =
+    ((ap zero_or (index_read i v each.0), (items_there i is (constant v ∷ items) names each).here), values_of is items names each.1)
+values_of (i ∷ is) (term ty ∷ items) [] each = absurd each
+values_of (i ∷ is) (term ty ∷ items) (name ∷ names) each =
+    ((local_read i ty name each.0, (items_there i is (term ty ∷ items) (name ∷ names) each).here), values_of is items names each.1)
+
 -- further indices are read one by one
 pub record Read (is : List Index) (vs : List ℤ) : Type 0 where
   pub value : next_index (more_indices is) ≡ head_value vs
   pub rest : List Index
   pub left : drop (taken (more_indices is)) (more_indices is) ≡ more_indices rest
-  pub each : AreIndices rest (behind_head vs)
+  pub each : HaveValues rest (behind_head vs)
 
-read : (is : List Index) (vs : List ℤ) → AreIndices is vs → Read is vs
+read : (is : List Index) (vs : List ℤ) → HaveValues is vs → Read is vs
 unfolding head_value behind_head
 read [] [] each = record { value = refl; rest = []; left = refl; each = tt }
 read [] (v ∷ vs) each = absurd each
 read (i ∷ is) [] each = absurd each
 read (i ∷ is) (v ∷ vs) each =
     let comma : bytes_eq (spelling word.Comma) (spelling word.Comma) ≡ true = same (spelling word.Comma) (spelling word.Comma) refl in
-    let known : index_value (type_word i.ty) i.number ≡ Some v = index_read i v each.0 in
-    let starts : (bytes_eq (spelling word.Comma) (spelling word.Comma) && is_some (index_value (type_word i.ty) i.number)) ≡ true =
-    ap (λ b. b && is_some (index_value (type_word i.ty) i.number)) comma ∙ ap is_some known in
+    let starts : (bytes_eq (spelling word.Comma) (spelling word.Comma) && is_index (type_word i.ty) i.number) ≡ true =
+    ap (λ b. b && is_index (type_word i.ty) i.number) comma ∙ each.0.1 in
     record {
-      value = ap (λ b. if b then zero_or (index_value (type_word i.ty) i.number) else pos 0) comma ∙ ap zero_or known;
+      value = ap (λ b. if b then zero_or (index_value (type_word i.ty) i.number) else pos 0) comma ∙ each.0.0;
       rest = is;
       left = ap (λ b. drop (if b then 3 else 0) (more_indices (i ∷ is))) starts;
       each = each.1;
@@ -130,7 +164,7 @@ sum_member z ty ts us stored = by_tokens ts ∙ ap (λ o. z *ℤ pos (bytes_with
     by_tokens (c ∷ (x ∷ vs)) =
         ap (λ b. if b && (is_count c && bytes_eq x (spelling word.Times)) then sum_over ((z *ℤ pos (magnitude c)) +ℤ next_index us) vs (drop (taken us) us) else z *ℤ pos (bytes_with (stored_type (type_word ty)))) (type_square ty)
 
-sum_levels : (z : ℤ) (ns : List (List ℕ)) (ty : Ty) (ts : List (List ℕ)) (is : List Index) (vs : List ℤ) → Each (λ m. IsCount (magnitude m) m) ns → IsStored ty → AreIndices is vs →
+sum_levels : (z : ℤ) (ns : List (List ℕ)) (ty : Ty) (ts : List (List ℕ)) (is : List Index) (vs : List ℤ) → Each (λ m. IsCount (magnitude m) m) ns → IsStored ty → HaveValues is vs →
     sum_over z (openings ns ++ type_word ty ∷ ts) (more_indices is) ≡ levels z ns vs ty
 unfolding levels
 sum_levels z [] ty ts is vs each stored are = sum_member z ty ts (more_indices is) stored
@@ -172,13 +206,31 @@ levels_offset z (n ∷ ns) (v ∷ vs) ty h =
     ∙ +ℤ_assoc (z *ℤ pos (magnitude n * total ns ty)) (v *ℤ pos (total ns ty)) (offset_of (inner_sizes ns ty) vs)
 
 -- a list of indices into the type of an object comes to what its levels make of it
-pub record Offset (sizes : List ℕ) (values : List ℤ) (ts us : List (List ℕ)) : Type 0 where
+pub record Offset (sizes : List ℕ) (items : List IndexItem) (ts us : List (List ℕ)) : Type 0 where
   pub first : ℤ
   pub is : first_index us ≡ Some first
-  pub sum : sum_over first ts (drop 2 us) ≡ offset_of sizes values
+  pub sum : sum_over first ts (drop 2 us) ≡ offset_of_items sizes items
 
-offset_by : (ns : List (List ℕ)) (ty : Ty) (is : List Index) (vs : List ℤ) → Each (λ m. IsCount (magnitude m) m) ns → IsStored ty → is ≢ [] → AreIndices is vs → length vs ≤ length (object_sizes ns ty) →
-    Offset (object_sizes ns ty) vs (object_tokens ns ty) (index_tokens is)
+by_items : (sizes : List ℕ) (items : List IndexItem) → offset_of sizes (map number_of items) ≡ offset_of_items sizes items
+by_items [] items = refl
+by_items (size ∷ sizes) [] = refl
+by_items (size ∷ sizes) (constant v ∷ items) = ap (λ k. (v *ℤ pos size) +ℤ k) (by_items sizes items)
+by_items (size ∷ sizes) (term ty ∷ items) = ap (λ k. k +ℤ offset_of sizes (map number_of items)) (nothing_times size) ∙ nothing_more (offset_of sizes (map number_of items)) ∙ by_items sizes items
+  where
+    nothing_times : (n : ℕ) → pos 0 *ℤ pos n ≡ pos 0
+    nothing_times n = *ℤ_comm (pos 0) (pos n) ∙ *ℤ-zero (pos n)
+
+    nothing_more : (z : ℤ) → pos 0 +ℤ z ≡ z
+    nothing_more z = omega (arith, ints)
+
+-- the same of values
+record Total (ns : List (List ℕ)) (ty : Ty) (vs : List ℤ) (us : List (List ℕ)) : Type 0 where
+  pub first : ℤ
+  pub is : first_index us ≡ Some first
+  pub sum : sum_over first (object_tokens ns ty) (drop 2 us) ≡ offset_of (object_sizes ns ty) vs
+
+offset_by : (ns : List (List ℕ)) (ty : Ty) (is : List Index) (vs : List ℤ) → Each (λ m. IsCount (magnitude m) m) ns → IsStored ty → is ≢ [] → HaveValues is vs → length vs ≤ length (object_sizes ns ty) →
+    Total ns ty vs (index_tokens is)
 unfolding inner_sizes
 offset_by ns ty [] vs counts stored some each h = absurd (some refl)
 offset_by ns ty (i ∷ is) [] counts stored some each h = absurd each
@@ -188,7 +240,7 @@ offset_by ns ty (i ∷ is) (v ∷ vs) counts stored some each h =
     let inner = inner_length ns ty in
     record {
       first = v;
-      is = index_read i v each.0;
+      is = ap Some each.0.0;
       sum = ap (λ ts. sum_over v ts (more_indices is)) (flat ns ty) ∙ sum_levels v ns ty (closings (length ns)) is vs counts stored each.1
           ∙ levels_offset v ns vs ty (omega (arith, h, long, inner)) ∙ ap (λ s. offset_of s (v ∷ vs)) (sym sizes);
     }
@@ -197,14 +249,16 @@ offset_by ns ty (i ∷ is) (v ∷ vs) counts stored some each h =
     inner_length [] ty = refl
     inner_length (n ∷ ns) ty = ap suc (inner_length ns ty)
 
-pub offset_is : (sizes : List ℕ) (values : List ℤ) (ts us : List (List ℕ)) → IsObject sizes ts → IsIndexList values us → length values ≤ length sizes → Offset sizes values ts us
-offset_is sizes values ts us f g h =
-    let short : length values ≤ length (object_sizes f.counts f.member) = subst (λ s. length values ≤ length s) f.sized h in
-    let by = offset_by f.counts f.member g.indices values f.are_counts f.stored g.some g.each short in
+pub offset_is : (sizes : List ℕ) (items : List IndexItem) (names ts us : List (List ℕ)) → IsObject sizes ts → AreWoven items names us → length items ≤ length sizes → Offset sizes items ts us
+offset_is sizes items names ts us f g h =
+    let short : length (map number_of items) ≤ length (object_sizes f.counts f.member) =
+    subst (λ s. length (map number_of items) ≤ length s) f.sized (omega (arith, h, length-map items number_of)) in
+    let by = offset_by f.counts f.member g.indices (map number_of items) f.are_counts f.stored g.some (values_of g.indices items names g.each) short in
     record {
       first = by.first;
       is = ap first_index g.tokens ∙ by.is;
-      sum = ap (λ s. sum_over by.first s (drop 2 us)) f.tokens ∙ ap (λ s. sum_over by.first (object_tokens f.counts f.member) (drop 2 s)) g.tokens ∙ by.sum ∙ ap (λ s. offset_of s values) (sym f.sized);
+      sum = ap (λ s. sum_over by.first s (drop 2 us)) f.tokens ∙ ap (λ s. sum_over by.first (object_tokens f.counts f.member) (drop 2 s)) g.tokens ∙ by.sum
+          ∙ ap (λ s. offset_of s (map number_of items)) (sym f.sized) ∙ by_items sizes items;
     }
 
 pub first_short : (line : List ℕ) (tokens : List Token) → length tokens < 2 → None ≡ first_index (texts line tokens)

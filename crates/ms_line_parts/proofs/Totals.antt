@@ -28,10 +28,10 @@ cut_times a b (suc m) e = elim (cases_lt a (2 ^ 128 - 1)) [
       omega (arith, e, more, a_grows, b_grows)
 ]
 
-swap : (a b : ℕ) → a * b ≡ b * a
+pub swap : (a b : ℕ) → a * b ≡ b * a
 swap a b = grind arith
 
-cut_again : (n m : ℕ) → cut (cut (n * cut m)) ≡ cut (n * m)
+pub cut_again : (n m : ℕ) → cut (cut (n * cut m)) ≡ cut (n * m)
 cut_again n m =
     let inner : cut (cut m) ≡ cut m = omega arith in
     let outer : cut (cut (n * cut m)) ≡ cut (n * cut m) = omega arith in

@@ -1,7 +1,8 @@
 -- Types of objects and lists of indices, read from the front of tokens.
-use Rattle.std.specs.Prelude.{ℕ, ℤ, ◌*◌, ◌-◌, ◌^◌, min, ◌==◌, zero, suc, Bool, true, false, ◌&&◌, List, [], ◌∷◌, Option, Some, None, is_some, if◌then◌else◌}
+use Rattle.std.specs.Prelude.{ℕ, ℤ, ◌*◌, ◌-◌, ◌^◌, min, ◌==◌, zero, suc, Bool, true, false, ◌&&◌, ◌||◌, List, [], ◌∷◌, Option, Some, None, is_some, if◌then◌else◌}
 use Rattle.std.specs.Str.{bytes_eq}
-use Rattle.ms_lex.specs.Kinds.{is_number}
+use Rattle.ms_lex.specs.Kinds.{is_number, is_token}
+use Rattle.ms_lex.specs.declared.token.TokenKind.TheVariants.{Local}
 use Rattle.ms_ir.specs.declared.names.Ty.{Ty}
 use Rattle.ms_ir.specs.declared.names.Ty.TheVariants.{I1, I8, I16, I32, I64, Ptr}
 use Rattle.ms_grammar.specs.Words.{spelling}
@@ -61,23 +62,27 @@ typed_value (Some ty) n = if is_number n then signed (bits ty) n else None
 abbrev pub index_value : List ℕ → List ℕ → Option ℤ
 index_value ty n = typed_value (stored_type ty) n
 
+-- a type and a number of it, or a local
+abbrev pub is_index : List ℕ → List ℕ → Bool
+is_index ty n = is_some (index_value ty n) || (is_some (stored_type ty) && is_token Local n)
+
 -- how many tokens a list of indices has that stands in front
 abbrev pub starts_more : List (List ℕ) → Bool
 starts_more [] = false
 starts_more (c ∷ []) = false
 starts_more (c ∷ (ty ∷ [])) = false
-starts_more (c ∷ (ty ∷ (n ∷ ts))) = bytes_eq c (spelling word.Comma) && is_some (index_value ty n)
+starts_more (c ∷ (ty ∷ (n ∷ ts))) = bytes_eq c (spelling word.Comma) && is_index ty n
 
 abbrev pub more_length : List (List ℕ) → ℕ
 more_length [] = 0
 more_length (c ∷ []) = 0
 more_length (c ∷ (ty ∷ [])) = 0
-more_length (c ∷ (ty ∷ (n ∷ ts))) = if bytes_eq c (spelling word.Comma) && is_some (index_value ty n) then suc (suc (suc (more_length ts))) else 0
+more_length (c ∷ (ty ∷ (n ∷ ts))) = if bytes_eq c (spelling word.Comma) && is_index ty n then suc (suc (suc (more_length ts))) else 0
 
 abbrev pub index_length : List (List ℕ) → ℕ
 index_length [] = 0
 index_length (ty ∷ []) = 0
-index_length (ty ∷ (n ∷ ts)) = if is_some (index_value ty n) then suc (suc (more_length ts)) else 0
+index_length (ty ∷ (n ∷ ts)) = if is_index ty n then suc (suc (more_length ts)) else 0
 
 -- the bytes of a type with a place in memory
 abbrev pub bytes_with : Option Ty → ℕ
@@ -105,3 +110,25 @@ array_count (o ∷ (n ∷ (x ∷ ts))) = if opens_array o n x then Some (cut (ma
 abbrev pub first_bytes : List (List ℕ) → ℕ
 first_bytes [] = 0
 first_bytes (t ∷ ts) = bytes_with (stored_type t)
+
+-- the counts of the arrays that open in front, and the bytes of the type behind them
+abbrev pub array_counts : List (List ℕ) → List ℕ
+array_counts [] = []
+array_counts (o ∷ []) = []
+array_counts (o ∷ (n ∷ [])) = []
+array_counts (o ∷ (n ∷ (x ∷ ts))) = if opens_array o n x then cut (magnitude n) ∷ array_counts ts else []
+
+abbrev pub member_bytes : List (List ℕ) → ℕ
+member_bytes [] = first_bytes []
+member_bytes (o ∷ []) = first_bytes (o ∷ [])
+member_bytes (o ∷ (n ∷ [])) = first_bytes (o ∷ n ∷ [])
+member_bytes (o ∷ (n ∷ (x ∷ ts))) = if opens_array o n x then member_bytes ts else first_bytes (o ∷ n ∷ x ∷ ts)
+
+-- the bytes of each level, the outermost first
+abbrev pub scaled : ℕ → List ℕ → List ℕ
+scaled count [] = []
+scaled count (size ∷ sizes) = cut (size * count) ∷ size ∷ sizes
+
+abbrev pub scales : ℕ → List ℕ → List ℕ
+scales bytes [] = bytes ∷ []
+scales bytes (count ∷ counts) = scaled count (scales bytes counts)

@@ -18,15 +18,15 @@ IsSum n z (Known k) = k ≡ z
 IsSum n z Above = pos n ≤ℤ z
 IsSum n z Below = z ≤ℤ (pos 0 -ℤ pos n)
 
--- the first index, and the next one, 0 where there is none
-abbrev pub first_index : List (List ℕ) → Option ℤ
-first_index [] = None
-first_index (ty ∷ []) = None
-first_index (ty ∷ (n ∷ ts)) = index_value ty n
-
+-- the first index, and the next one, 0 for a local and where there is none
 abbrev pub zero_or : Option ℤ → ℤ
 zero_or None = pos 0
 zero_or (Some v) = v
+
+abbrev pub first_index : List (List ℕ) → Option ℤ
+first_index [] = None
+first_index (ty ∷ []) = None
+first_index (ty ∷ (n ∷ ts)) = Some (zero_or (index_value ty n))
 
 abbrev pub next_index : List (List ℕ) → ℤ
 next_index [] = pos 0

@@ -10,11 +10,13 @@ mod attributes;
 mod brackets;
 mod fronts;
 mod objects;
+mod terms;
 mod wholes;
 mod words;
 
 pub use fronts::{attributes_front, call_mark_front, call_type_front, member_front, post_front};
-pub use objects::{indices_fit, indices_front, object_front, object_size, offset};
+pub use objects::{indices_front, object_front, object_size};
+pub use terms::{cut_text, index_terms, small_offset};
 pub use wholes::{global_line, group_line, is_kept_line, is_tail};
 pub use words::{
     bytes_of, cast_at, count_at, global_at, is_keyword, kept, local_at, name_of, number_at, op_at,

@@ -4,11 +4,12 @@ ghost use Rattle.ms_lex.specs.Kinds.{is_number};
 ghost use Rattle.ms_lex.specs.Line.{IsTokenOf};
 ghost use Rattle.ms_lex.specs.declared.token.Token.{Token};
 ghost use Rattle.ms_grammar.specs.Numbers.{is_negative, magnitude};
-ghost use Rattle.ms_grammar.specs.Kept.{AreMany, IsTailItem, IsObject, IsIndexList};
-ghost use Rattle.ms_grammar.specs.Fits.{offset_of};
+ghost use Rattle.ms_grammar.specs.Kept.{AreMany, IsTailItem, IsObject, IndexItem, AreWoven};
+ghost use Rattle.ms_grammar.specs.Fits.{offset_of_items};
+ghost use Rattle.ms_grammar.specs.Limits.{IsNearOffset};
 ghost use Rattle.ms_grammar.specs.Parts.{bytes_at, texts};
-ghost use Rattle.ms_line_parts.specs.Sizes.{is_count, starts_array, counts_of, stored_type, closes, ends_object, index_value, starts_more, more_length, index_length, bytes_with, size_times, cut, array_count, first_bytes};
-ghost use Rattle.ms_line_parts.specs.Sums.{far, IsSum, first_index, next_index, taken, sum_over};
+ghost use Rattle.ms_line_parts.specs.Sizes.{is_count, starts_array, counts_of, stored_type, closes, ends_object, index_value, is_index, starts_more, more_length, index_length, bytes_with, size_times, cut, array_count, first_bytes};
+ghost use Rattle.ms_line_parts.specs.Sums.{far, IsSum, zero_or, first_index, next_index, taken, sum_over};
 
 use crate::words::{
     bytes_of, has_kind, has_minus, is_keyword, known_type, magnitude_of, signed_numeral,
@@ -68,7 +69,7 @@ fn levels(line: &[u8], tokens: &[Token]) -> usize
 }
 
 // The type with a place in memory that a token names.
-fn stored_type(line: &[u8], token: Token) -> Option<Ty>
+pub fn stored_type(line: &[u8], token: Token) -> Option<Ty>
     requires { IsTokenOf line.now token }
     ensures { result ≡ stored_type (bytes_at line.now token) }
 {
@@ -134,6 +135,16 @@ fn index_value(line: &[u8], ty: Token, number: Token) -> Option<i64>
     }
 }
 
+// Whether a type and what stands behind it are an index: a number of the type, or a local.
+fn is_index(line: &[u8], ty: Token, number: Token) -> bool
+    requires ty { IsTokenOf line.now ty }
+    requires number { IsTokenOf line.now number }
+    ensures { result ≡ is_index (bytes_at line.now ty) (bytes_at line.now number) }
+{
+    index_value(line, ty, number).is_some()
+        || (stored_type(line, ty).is_some() && has_kind(line, number, TokenKind::Local))
+}
+
 // Whether a comma and an index stand in front.
 fn starts_more(line: &[u8], tokens: &[Token]) -> bool
     requires { All (IsTokenOf line.now) tokens.now }
@@ -142,7 +153,7 @@ fn starts_more(line: &[u8], tokens: &[Token]) -> bool
 {
     match tokens {
         [comma, ty, number, ..] => {
-            is_keyword(line, *comma, Keyword::Comma) && index_value(line, *ty, *number).is_some()
+            is_keyword(line, *comma, Keyword::Comma) && is_index(line, *ty, *number)
         }
         _ => false,
     }
@@ -168,8 +179,7 @@ fn index_front(line: &[u8], tokens: &[Token]) -> usize
     ensures within { result ≤ length tokens.now }
 {
     match tokens {
-        [ty, number, rest @ ..] if index_value(line, *ty, *number).is_some() => 2
-            + more_front(line, rest),
+        [ty, number, rest @ ..] if is_index(line, *ty, *number) => 2 + more_front(line, rest),
         _ => 0,
     }
 }
@@ -178,9 +188,9 @@ fn index_front(line: &[u8], tokens: &[Token]) -> usize
 pub fn indices_front(line: &[u8], tokens: &[Token]) -> usize
     requires { All (IsTokenOf line.now) tokens.now }
     ensures within { result ≤ length tokens.now }
-    ensures is { 0 < result → (values : List ℤ) × IsIndexList values (texts line.now (take result tokens.now)) }
-    ensures whole { (run rest : List Token) (values : List ℤ) → tokens.now ≡ run ++ rest → IsIndexList values (texts line.now run)
-        → AreMany IsTailItem (texts line.now rest) → result ≡ length run }
+    ensures is { 0 < result → (items : List IndexItem) × (names : List (List ℕ)) × AreWoven items names (texts line.now (take result tokens.now)) }
+    ensures whole { (run rest : List Token) (items : List IndexItem) (names : List (List ℕ)) → tokens.now ≡ run ++ rest
+        → AreWoven items names (texts line.now run) → AreMany IsTailItem (texts line.now rest) → result ≡ length run }
 {
     index_front(line, tokens)
 }
@@ -212,7 +222,7 @@ fn largest_or(text: &[u8]) -> u128
 }
 
 // The count of the array that opens in front.
-fn array_count(line: &[u8], tokens: &[Token]) -> Option<u128>
+pub fn array_count(line: &[u8], tokens: &[Token]) -> Option<u128>
     requires { All (IsTokenOf line.now) tokens.now }
     ensures is { result ≡ array_count (texts line.now tokens.now) }
     ensures long { IfSome result (λ _. 3 ≤ length tokens.now) }
@@ -229,7 +239,7 @@ fn array_count(line: &[u8], tokens: &[Token]) -> Option<u128>
 }
 
 // The bytes of the type in front.
-fn first_bytes(line: &[u8], tokens: &[Token]) -> u128
+pub fn first_bytes(line: &[u8], tokens: &[Token]) -> u128
     requires { All (IsTokenOf line.now) tokens.now }
     ensures is { result ≡ first_bytes (texts line.now tokens.now) }
     ensures small { result ≤ 8 }
@@ -266,18 +276,6 @@ pub fn object_size(line: &[u8], tokens: &[Token]) -> Option<u32>
     } else {
         None
     }
-}
-
-/// Whether a list of indices has no more of them than the type has levels.
-pub fn indices_fit(line: &[u8], object: &[Token], indices: &[Token]) -> bool
-    requires object { All (IsTokenOf line.now) object.now }
-    requires indices { All (IsTokenOf line.now) indices.now }
-    ensures yes { (sizes : List ℕ) (values : List ℤ) → IsObject sizes (texts line.now object.now) → IsIndexList values (texts line.now indices.now)
-        → IsTrue result → length values ≤ length sizes }
-    ensures no { (sizes : List ℕ) (values : List ℤ) → IsObject sizes (texts line.now object.now) → IsIndexList values (texts line.now indices.now)
-        → length values ≤ length sizes → IsTrue result }
-{
-    (indices.len() + 1) / 3 <= (object.len() + 3) / 4
 }
 
 // A sum that is known, or one that is too far above or below 0 to come back.
@@ -327,13 +325,25 @@ fn plus(sum: Sum, index: i64) -> Sum
     }
 }
 
+// The value of an index; 0 for a local, which no number of the offset stands for.
+fn number_or_zero(line: &[u8], ty: Token, number: Token) -> i64
+    requires ty { IsTokenOf line.now ty }
+    requires number { IsTokenOf line.now number }
+    ensures { result ≡ zero_or (index_value (bytes_at line.now ty) (bytes_at line.now number)) }
+{
+    match index_value(line, ty, number) {
+        Some(value) => value,
+        None => 0,
+    }
+}
+
 fn first_index(line: &[u8], tokens: &[Token]) -> Option<i64>
     requires { All (IsTokenOf line.now) tokens.now }
     ensures is { result ≡ first_index (texts line.now tokens.now) }
     ensures long { IfSome result (λ _. 2 ≤ length tokens.now) }
 {
     match tokens {
-        [ty, number, ..] => index_value(line, *ty, *number),
+        [ty, number, ..] => Some(number_or_zero(line, *ty, *number)),
         _ => None,
     }
 }
@@ -345,10 +355,7 @@ fn next_index(line: &[u8], tokens: &[Token]) -> i64
 {
     match tokens {
         [comma, ty, number, ..] if is_keyword(line, *comma, Keyword::Comma) => {
-            match index_value(line, *ty, *number) {
-                Some(value) => value,
-                None => 0,
-            }
+            number_or_zero(line, *ty, *number)
         }
         _ => 0,
     }
@@ -384,9 +391,7 @@ fn sum_over(line: &[u8], object: &[Token], indices: &[Token], first: i64) -> Sum
 
 // A sum of at most 2^31 either way.
 fn small(sum: Sum) -> Option<i64>
-    ensures { (z : ℤ) → IsSum (2 ^ 126) z sum → MatchOption result
-        (((pos 0 -ℤ pos 2147483648) ≤ℤ z) → (z ≤ℤ pos 2147483648) → ⊥)
-        (λ n. (n ≡ z) × ((pos 0 -ℤ pos 2147483648) ≤ℤ n) × (n ≤ℤ pos 2147483648)) }
+    ensures { (z : ℤ) → IsSum (2 ^ 126) z sum → MatchOption result (IsNearOffset z → ⊥) (λ n. (n ≡ z) × IsNearOffset n) }
 {
     match sum {
         Sum::Known(n) if -2147483648 <= n && n <= 2147483648 => Some(n as i64),
@@ -394,15 +399,13 @@ fn small(sum: Sum) -> Option<i64>
     }
 }
 
-/// What indices into a type come to in bytes; `None` where that is more than 2^31 either way.
+/// What the numbers among indices into a type come to in bytes; `None` where that is more than 2^31 either way.
 pub fn offset(line: &[u8], object: &[Token], indices: &[Token]) -> Option<i64>
     requires object { All (IsTokenOf line.now) object.now }
     requires indices { All (IsTokenOf line.now) indices.now }
-    ensures { (sizes : List ℕ) (values : List ℤ) → IsObject sizes (texts line.now object.now) → IsIndexList values (texts line.now indices.now)
-        → length values ≤ length sizes
-        → MatchOption result
-        (((pos 0 -ℤ pos 2147483648) ≤ℤ offset_of sizes values) → (offset_of sizes values ≤ℤ pos 2147483648) → ⊥)
-        (λ n. (n ≡ offset_of sizes values) × ((pos 0 -ℤ pos 2147483648) ≤ℤ n) × (n ≤ℤ pos 2147483648)) }
+    ensures { (sizes : List ℕ) (items : List IndexItem) (names : List (List ℕ)) → IsObject sizes (texts line.now object.now)
+        → AreWoven items names (texts line.now indices.now) → length items ≤ length sizes
+        → MatchOption result (IsNearOffset (offset_of_items sizes items) → ⊥) (λ n. (n ≡ offset_of_items sizes items) × IsNearOffset n) }
 {
     match first_index(line, indices) {
         Some(first) => small(sum_over(line, object, indices, first)),

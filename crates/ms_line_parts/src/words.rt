@@ -468,7 +468,7 @@ pub fn value_at(
 }
 
 // The bytes from a place up to another; none where the second is not behind the first.
-fn between(line: &[u8], from: u32, to: u32) -> &[u8]
+pub fn between(line: &[u8], from: u32, to: u32) -> &[u8]
     requires { to ≤ length line.now }
     ensures { result.now ≡ slice_range line.now from to }
 {

@@ -10,16 +10,17 @@ use Rattle.ms_grammar.specs.declared.line.RawVal.{RawVal}
 use Rattle.ms_grammar.specs.declared.line.RawVal.TheVariants.{Num, Local, Global}
 use Rattle.ms_grammar.specs.declared.line.RawArg.{RawArg}
 use Rattle.ms_grammar.specs.declared.line.RawEntry.{RawEntry}
+use Rattle.ms_grammar.specs.declared.line.RawIndex.{RawIndex}
 use Rattle.ms_grammar.specs.declared.line.RawInst.{RawInst}
-use Rattle.ms_grammar.specs.declared.line.RawInst.TheVariants.{Alloca, Gep, Load, Store, Copy, Call, Bin, Cmp, Select, Cast, Phi}
+use Rattle.ms_grammar.specs.declared.line.RawInst.TheVariants.{Alloca, Gep, Step, Load, Store, Copy, Call, Bin, Cmp, Select, Cast, Phi}
 use Rattle.ms_grammar.specs.declared.line.RawTerm.{RawTerm}
 use Rattle.ms_grammar.specs.declared.line.RawTerm.TheVariants.{Br, CondBr, Ret, Unreachable}
 use Rattle.ms_names.specs.Shape.{LabelLine, FuncLines, inst_line, label_lines, block_lines}
 use Rattle.ms_names.specs.Made.{Made}
-use Rattle.ms_names.specs.Used.{Names, arg_value, entry_value, entry_block, values_of, term_values, local_of, global_of, inst_blocks, term_blocks, callee_of, inst_names, term_names}
+use Rattle.ms_names.specs.Used.{Names, arg_value, entry_value, index_value, entry_block, values_of, term_values, local_of, global_of, inst_blocks, term_blocks, callee_of, inst_names, term_names}
 use Rattle.ms_names.specs.Faults.{IsNotIn, NamesFirst, UsesUnknown, local, block, global, StandsAt, inst, term}
 use Rattle.ms_names.specs.Places.{is_word_there, is_name_there}
-use Rattle.ms_names.specs.Uses.{Known, lacks_symbol, lacks_block, lacks_value, lacks_arg, lacks_entry, inst_lacks, term_lacks, line_lacks, least_lacking}
+use Rattle.ms_names.specs.Uses.{Known, lacks_symbol, lacks_block, lacks_value, lacks_arg, lacks_entry, lacks_index, inst_lacks, term_lacks, line_lacks, least_lacking}
 use Rattle.ms_names.proofs.Members.{Among, among_in, in_among, among_append, among_left, among_right, among_map, map_among, among_flat, flat_among, any_among, among_any, there_word, word_there_any, or_either, or_left, or_right}
 use Rattle.ms_names.proofs.Least.{IsLeastOf, least_change, least_along, FaultAlong, least_along_is}
 
@@ -30,9 +31,17 @@ lost k w = not (is_word_there k.symbols w)
 abbrev lists_lack : Known → List RawVal → List Name → List (List ℕ) → Bool
 lists_lack k vals blocks callees = list_any (lacks_value k) vals || (list_any (lacks_block k) blocks || list_any (lost k) callees)
 
+or0 : (a : Bool) → a ≡ (a || (false || false))
+or0 true = refl
+or0 false = refl
+
 or1 : (a : Bool) → a ≡ ((a || false) || (false || false))
 or1 true = refl
 or1 false = refl
+
+or_step : (a b : Bool) → (a || b) ≡ ((a || b) || (false || false))
+or_step true b = refl
+or_step false b = or0 b
 
 or2 : (a b : Bool) → (a || b) ≡ ((a || (b || false)) || (false || false))
 or2 true b = refl
@@ -71,6 +80,10 @@ args_any : (k : Known) (args : List RawArg) → list_any (lacks_arg k) args ≡ 
 args_any k [] = refl
 args_any k (a ∷ args) = ap (λ b. lacks_value k a.val || b) (args_any k args)
 
+terms_any : (k : Known) (terms : List RawIndex) → list_any (lacks_index k) terms ≡ list_any (lacks_value k) (map index_value terms)
+terms_any k [] = refl
+terms_any k (t ∷ terms) = ap (λ b. lacks_value k t.val || b) (terms_any k terms)
+
 entries_any : (k : Known) (es : List RawEntry) → list_any (lacks_entry k) es ≡ (list_any (lacks_value k) (map entry_value es) || (list_any (lacks_block k) (map entry_block es) || false))
 entries_any k [] = refl
 entries_any k (e ∷ es) =
@@ -80,6 +93,8 @@ entries_any k (e ∷ es) =
 inst_lists : (k : Known) (i : RawInst) → inst_lacks k i ≡ lists_lack k (values_of i) (inst_blocks i) (callee_of i)
 inst_lists k (Alloca size head rest) = refl
 inst_lists k (Gep base offset head index rest) = or1 (lacks_value k base)
+inst_lists k (Step base offset terms head index rest) =
+    ap (λ b. lacks_value k base || b) (terms_any k terms) ∙ or_step (lacks_value k base) (list_any (lacks_value k) (map index_value terms))
 inst_lists k (Load ty ptr rest) = or1 (lacks_value k ptr)
 inst_lists k (Store ty val ptr rest) = or2 (lacks_value k val) (lacks_value k ptr)
 inst_lists k (Copy to from len head behind rest) = or2 (lacks_value k to.val) (lacks_value k from.val)

@@ -7,7 +7,7 @@ use Rattle.ms_ir.specs.declared.names.Name.{Name}
 use Rattle.ms_ir.specs.declared.names.Name.TheVariants.{Word, Number, Absent}
 use Rattle.ms_ir.specs.declared.names.Param.{Param}
 use Rattle.ms_grammar.specs.declared.line.RawInst.{RawInst}
-use Rattle.ms_grammar.specs.declared.line.RawInst.TheVariants.{Store, Copy, Call}
+use Rattle.ms_grammar.specs.declared.line.RawInst.TheVariants.{Alloca, Gep, Step, Load, Store, Copy, Call, Bin, Cmp, Select, Cast, Phi}
 use Rattle.ms_names.specs.Shape.{LabelLine, InstLine, BlockLines, FuncLines}
 
 -- a parameter, block or result, with the line that makes it and the name that is written for it
@@ -18,10 +18,18 @@ pub record Made : Type 0 where
 
 -- whether an instruction gives a result
 abbrev pub makes : RawInst → Bool
+makes (Alloca _ _ _) = true
+makes (Gep _ _ _ _ _) = true
+makes (Step _ _ _ _ _ _) = true
+makes (Load _ _ _) = true
 makes (Store _ _ _ _) = false
 makes (Copy _ _ _ _ _ _) = false
 makes (Call _ ret _ _ _ _) = is_some ret
-makes _ = true
+makes (Bin _ _ _ _ _ _) = true
+makes (Cmp _ _ _ _ _ _) = true
+makes (Select _ _ _ _ _) = true
+makes (Cast _ _ _ _ _ _) = true
+makes (Phi _ _ _) = true
 
 abbrev pub param_made : ℕ → Param → Made
 param_made n p = record { line = n; is_block = false; name = p.name }

@@ -11,8 +11,9 @@ use Rattle.ms_grammar.specs.declared.line.RawVal.{RawVal}
 use Rattle.ms_grammar.specs.declared.line.RawVal.TheVariants.{Num, Local, Global}
 use Rattle.ms_grammar.specs.declared.line.RawArg.{RawArg}
 use Rattle.ms_grammar.specs.declared.line.RawEntry.{RawEntry}
+use Rattle.ms_grammar.specs.declared.line.RawIndex.{RawIndex}
 use Rattle.ms_grammar.specs.declared.line.RawInst.{RawInst}
-use Rattle.ms_grammar.specs.declared.line.RawInst.TheVariants.{Alloca, Gep, Load, Store, Copy, Call, Bin, Cmp, Select, Cast, Phi}
+use Rattle.ms_grammar.specs.declared.line.RawInst.TheVariants.{Alloca, Gep, Step, Load, Store, Copy, Call, Bin, Cmp, Select, Cast, Phi}
 use Rattle.ms_grammar.specs.declared.line.RawTerm.{RawTerm}
 use Rattle.ms_grammar.specs.declared.line.RawTerm.TheVariants.{Br, CondBr, Ret, Unreachable}
 use Rattle.ms_names.specs.Places.{is_word_there, is_name_there}
@@ -45,6 +46,9 @@ lacks_arg k a = lacks_value k a.val
 abbrev pub lacks_entry : Known → RawEntry → Bool
 lacks_entry k e = lacks_value k e.val || lacks_block k e.from
 
+abbrev pub lacks_index : Known → RawIndex → Bool
+lacks_index k t = lacks_value k t.val
+
 abbrev pub lacks_given : Known → Option (Ty × RawVal) → Bool
 lacks_given k None = false
 lacks_given k (Some given) = lacks_value k given.1
@@ -53,6 +57,7 @@ lacks_given k (Some given) = lacks_value k given.1
 abbrev pub inst_lacks : Known → RawInst → Bool
 inst_lacks k (Alloca size head rest) = false
 inst_lacks k (Gep base offset head index rest) = lacks_value k base
+inst_lacks k (Step base offset terms head index rest) = lacks_value k base || list_any (lacks_index k) terms
 inst_lacks k (Load ty ptr rest) = lacks_value k ptr
 inst_lacks k (Store ty val ptr rest) = lacks_value k val || lacks_value k ptr
 inst_lacks k (Copy to from len head behind rest) = lacks_arg k to || lacks_arg k from

@@ -26,7 +26,15 @@ pub fn makes(inst: &RawInst) -> bool
     match inst {
         RawInst::Store { .. } | RawInst::Copy { .. } => false,
         RawInst::Call { ret, .. } => ret.is_some(),
-        _ => true,
+        RawInst::Alloca { .. }
+        | RawInst::Gep { .. }
+        | RawInst::Step { .. }
+        | RawInst::Load { .. }
+        | RawInst::Bin { .. }
+        | RawInst::Cmp { .. }
+        | RawInst::Select { .. }
+        | RawInst::Cast { .. }
+        | RawInst::Phi { .. } => true,
     }
 }
 

@@ -4,13 +4,13 @@ ghost use Rattle.std.specs.List.{list_any};
 ghost use Rattle.ms_grammar.specs.Form.{name_text};
 ghost use Rattle.ms_names.specs.Places.{word_place};
 ghost use Rattle.ms_names.specs.Draft.{is_inside, body_lines};
-ghost use Rattle.ms_names.specs.Uses.{known_by, lacks_symbol, lacks_block, lacks_value, lacks_arg, lacks_entry, lacks_given, inst_lacks, term_lacks, line_lacks, least_lacking, least_in, least_in_line, least_after};
+ghost use Rattle.ms_names.specs.Uses.{known_by, lacks_symbol, lacks_block, lacks_value, lacks_arg, lacks_entry, lacks_index, lacks_given, inst_lacks, term_lacks, line_lacks, least_lacking, least_in, least_in_line, least_after};
 
 use crate::faults::{earlier, with_fault};
 use crate::register::{Register, register_of};
 use crate::table::Words;
 use itoa::Buffer;
-use ms_grammar::{Head, Line, RawArg, RawEntry, RawInst, RawTerm, RawVal};
+use ms_grammar::{Head, Line, RawArg, RawEntry, RawIndex, RawInst, RawTerm, RawVal};
 use ms_ir::{Name, NoMemory, Ty};
 use std::alloc::Global;
 
@@ -84,6 +84,23 @@ fn lacks_in_entries(register: &Register, symbols: &Words, entries: &[RawEntry]) 
     false
 }
 
+fn lacks_index(register: &Register, symbols: &Words, term: &RawIndex) -> bool
+    ensures { result ≡ lacks_index (known_by register.now symbols.now) term.now }
+{
+    lacks_value(register, symbols, &term.val)
+}
+
+fn lacks_in_terms(register: &Register, symbols: &Words, terms: &[RawIndex]) -> bool
+    ensures { result ≡ list_any (lacks_index (known_by register.now symbols.now)) terms.now }
+{
+    for term in terms {
+        if lacks_index(register, symbols, term) {
+            return true;
+        }
+    }
+    false
+}
+
 fn lacks_given(register: &Register, symbols: &Words, given: &Option<(Ty, RawVal)>) -> bool
     ensures { result ≡ lacks_given (known_by register.now symbols.now) given.now }
 {
@@ -99,6 +116,10 @@ fn inst_lacks(register: &Register, symbols: &Words, inst: &RawInst) -> bool
     match inst {
         RawInst::Alloca { .. } => false,
         RawInst::Gep { base, .. } => lacks_value(register, symbols, base),
+        RawInst::Step { base, terms, .. } => {
+            lacks_value(register, symbols, base)
+                || lacks_in_terms(register, symbols, terms.as_slice())
+        }
         RawInst::Load { ptr, .. } => lacks_value(register, symbols, ptr),
         RawInst::Store { val, ptr, .. } => {
             lacks_value(register, symbols, val) || lacks_value(register, symbols, ptr)

@@ -13,10 +13,10 @@ use Rattle.ms_resolve.specs.Shape.{ItemLines, IsShape}
 use Rattle.ms_resolve.specs.Faults.{HasNameFault}
 use Rattle.ms_resolve.specs.Module.{groups_of, module_of, IsModuleOf}
 use Rattle.ms_session.specs.Annotated.{IsAnnotated}
-use Rattle.ms_valid.specs.Faults.{bodies_there, HasTypeFault, HasEdgeFault, HasOrderFault, IsIrreducible}
-use Rattle.ms_valid.specs.Cause.{HasNone, IsNamed, IsAccepted, IsValidCause}
-use Rattle.ms_valid.specs.declared.fault.ValidFault.{ValidFault}
-use Rattle.ms_valid.specs.declared.fault.ValidFault.TheVariants as valid
+use Rattle.ms_validity.specs.Faults.{bodies_there, HasTypeFault, HasEdgeFault, HasOrderFault, IsIrreducible}
+use Rattle.ms_validity.specs.Cause.{HasNone, IsNamed, IsAccepted, IsValidCause}
+use Rattle.ms_validity.specs.declared.fault.ValidFault.{ValidFault}
+use Rattle.ms_validity.specs.declared.fault.ValidFault.TheVariants as valid
 use Rattle.ms_output.specs.Forms.{IsForm, AreForms, times, form_text, IsWrittenOf}
 use Rattle.ms_output.specs.Output.{refusal_at, valid_refusal}
 use Rattle.ms_output.specs.declared.refusal.Refusal.{Refusal}

@@ -9,7 +9,7 @@ use Rattle.ms_ir.specs.declared.module.Sig.{Sig}
 use Rattle.ms_ir.specs.Func.{FuncState}
 use Rattle.ms_ir.specs.Module.{ModuleState, body_in, body_of, funcs_in, IsWhole}
 use Rattle.ms_ir.specs.Symbols.{NamesState}
-use Rattle.ms_valid.specs.Faults.{body_there, bodies_there}
+use Rattle.ms_validity.specs.Faults.{body_there, bodies_there}
 use Rattle.ms_output.specs.Forms.{AreForms, times}
 
 -- the forms of functions, and behind them those of others

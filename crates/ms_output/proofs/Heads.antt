@@ -10,7 +10,7 @@ use Rattle.ms_resolve.specs.Shape.{LabelLine, InstLine, BlockLines, FuncLines, I
 use Rattle.ms_resolve.specs.Module.{func_names_in, bodies_in, scope_of}
 use Rattle.ms_resolve.specs.Scope.{Scope}
 use Rattle.ms_read.specs.Draft.{IsDraft}
-use Rattle.ms_valid.specs.Cause.{IsLoopCause}
+use Rattle.ms_validity.specs.Cause.{IsLoopCause}
 use Rattle.ms_output.specs.Funcs.{funcs_said}
 use Rattle.ms_output.specs.Output.{IsFuncIn}
 

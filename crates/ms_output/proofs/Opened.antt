@@ -7,10 +7,10 @@ use Rattle.ms_ir.specs.SoundFunc.{IsSoundFunc}
 use Rattle.ms_grammar.specs.declared.line.Line.{Line}
 use Rattle.ms_resolve.specs.Shape.{FuncLines, ItemLines, body, func_lines, item_lines}
 use Rattle.ms_resolve.specs.Faults.{IsIn}
-use Rattle.ms_valid.specs.Cause.{IsAccepted}
-use Rattle.ms_valid.specs.Faults.{body_there, bodies_there}
-use Rattle.ms_valid.proofs.FaultLemmas.{scope_in, body_at, func_in}
-use Rattle.ms_valid.proofs.ListLemmas.{in_nil, in_cons, in_here, flat_in}
+use Rattle.ms_validity.specs.Cause.{IsAccepted}
+use Rattle.ms_validity.specs.Faults.{body_there, bodies_there}
+use Rattle.ms_validity.proofs.FaultLemmas.{scope_in, body_at, func_in}
+use Rattle.ms_validity.proofs.ListLemmas.{in_nil, in_cons, in_here, flat_in}
 use Rattle.ms_alias.specs.Offsets.{AreOffsetsNear}
 use Rattle.ms_output.specs.Forms.{AreOpen, AreSmall, IsSmallAt}
 use Rattle.ms_output.proofs.Near.{each_front, each_rest, func_near}

@@ -4,7 +4,7 @@ use Rattle.ms_grammar.specs.declared.line.Line.{Line}
 use Rattle.ms_read.specs.Draft.{IsDraft, IsModuleCause}
 use Rattle.ms_read.specs.declared.fault.ReadFault.{ReadFault}
 use Rattle.ms_read.specs.declared.fault.ReadFault.TheVariants as fault
-use Rattle.ms_valid.specs.Cause.{IsValidCause, IsAccepted}
+use Rattle.ms_validity.specs.Cause.{IsValidCause, IsAccepted}
 use Rattle.ms_output.specs.Output.{read_refusal, IsUnread, IsInvalid, IsRefusal, IsOutput}
 use Rattle.ms_output.specs.declared.refusal.Refusal.{Refusal}
 use Rattle.ms_output.specs.declared.wanted.Wanted.{Wanted}

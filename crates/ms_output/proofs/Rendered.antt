@@ -2,9 +2,9 @@
 use Rattle.std.proofs.Common.{◌≡◌, ℕ, List, [], inr, Some, Result, Ok, Err, ap, subst, ◌∙◌, arith, slice_index_or}
 use Rattle.ms_grammar.specs.declared.line.Line.{Line}
 use Rattle.ms_read.specs.Draft.{IsDraft}
-use Rattle.ms_valid.specs.Cause.{IsValidCause, IsLoopCause}
-use Rattle.ms_valid.specs.declared.fault.ValidFault.{ValidFault}
-use Rattle.ms_valid.specs.declared.fault.ValidFault.TheVariants as valid
+use Rattle.ms_validity.specs.Cause.{IsValidCause, IsLoopCause}
+use Rattle.ms_validity.specs.declared.fault.ValidFault.{ValidFault}
+use Rattle.ms_validity.specs.declared.fault.ValidFault.TheVariants as valid
 use Rattle.ms_output.specs.Funcs.{funcs_said}
 use Rattle.ms_output.specs.Output.{refusal_at, valid_refusal, IsFuncIn}
 use Rattle.ms_output.specs.Told.{Renders, RendersDraft}

@@ -24,8 +24,8 @@ use Rattle.ms_ir.specs.declared.inst.Kind.TheVariants.{Def, Reads, Neither}
 use Rattle.ms_ir.specs.Inst.{kind_of_inst}
 use Rattle.ms_walk.proofs.Spare.{clobber_moved, read_moved}
 use Rattle.ms_session.specs.Annotated.{IsUse, IsInstLine, IsAnnotated}
-use Rattle.ms_valid.specs.Faults.{body_there, bodies_there, IsBody, HasInst, HasTerm, CallsOtherwise, ReturnsOtherwise, HasTypeFaultIn, operand, func_operand, global_called, call, term_operand, func_returned, returned, HasEdgeFaultIn, branch, phi, HasOrderFaultIn, HasTypeFault, HasEdgeFault, HasOrderFault, IsIrreducible}
-use Rattle.ms_valid.specs.Faults as fault
+use Rattle.ms_validity.specs.Faults.{body_there, bodies_there, IsBody, HasInst, HasTerm, CallsOtherwise, ReturnsOtherwise, HasTypeFaultIn, operand, func_operand, global_called, call, term_operand, func_returned, returned, HasEdgeFaultIn, branch, phi, HasOrderFaultIn, HasTypeFault, HasEdgeFault, HasOrderFault, IsIrreducible}
+use Rattle.ms_validity.specs.Faults as fault
 use Rattle.ms_output.specs.Forms.{IsForm, AreForms}
 
 abbrev Room : Type 0

@@ -10,7 +10,7 @@ use Rattle.ms_alias.specs.Offsets.{AreOffsetsNear}
 use Rattle.ms_grammar.specs.Kept.{Each}
 use Rattle.ms_grammar.specs.Limits.{IsSmall}
 use Rattle.ms_grammar.specs.declared.line.Line.{Line}
-use Rattle.ms_valid.specs.Faults.{bodies_there}
+use Rattle.ms_validity.specs.Faults.{bodies_there}
 use Rattle.ms_output.specs.declared.wanted.Wanted.{Wanted}
 
 unfoldable pub header_part : List ℕ

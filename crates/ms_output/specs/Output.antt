@@ -6,9 +6,9 @@ use Rattle.ms_read.specs.Draft.{IsDraft, IsModuleCause}
 use Rattle.ms_read.specs.declared.fault.ReadFault.{ReadFault}
 use Rattle.ms_read.specs.declared.fault.ReadFault.TheVariants as read
 use Rattle.ms_resolve.specs.Shape.{ItemLines}
-use Rattle.ms_valid.specs.Cause.{IsNamed, IsAccepted, IsValidCause}
-use Rattle.ms_valid.specs.declared.fault.ValidFault.{ValidFault}
-use Rattle.ms_valid.specs.declared.fault.ValidFault.TheVariants as valid
+use Rattle.ms_validity.specs.Cause.{IsNamed, IsAccepted, IsValidCause}
+use Rattle.ms_validity.specs.declared.fault.ValidFault.{ValidFault}
+use Rattle.ms_validity.specs.declared.fault.ValidFault.TheVariants as valid
 use Rattle.ms_output.specs.Forms.{IsWrittenOf}
 use Rattle.ms_output.specs.declared.refusal.Refusal.{Refusal}
 use Rattle.ms_output.specs.declared.wanted.Wanted.{Wanted}

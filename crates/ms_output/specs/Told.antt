@@ -2,8 +2,8 @@
 use Rattle.std.specs.Prelude.{◌≡◌, ℕ, List, [], Option, Some, Result, Ok, Err, slice_index_or}
 use Rattle.ms_grammar.specs.declared.line.Line.{Line}
 use Rattle.ms_ir.specs.Module.{ModuleState}
-use Rattle.ms_valid.specs.Cause.{IsAccepted, IsValidCause}
-use Rattle.ms_valid.specs.declared.fault.ValidFault.{ValidFault}
+use Rattle.ms_validity.specs.Cause.{IsAccepted, IsValidCause}
+use Rattle.ms_validity.specs.declared.fault.ValidFault.{ValidFault}
 use Rattle.ms_output.specs.Forms.{IsWrittenOf}
 use Rattle.ms_output.specs.Funcs.{funcs_said}
 use Rattle.ms_output.specs.Output.{valid_refusal, IsOutput, IsRefusal, IsFuncIn}

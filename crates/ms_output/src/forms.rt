@@ -3,7 +3,7 @@ ghost use Rattle.std.specs.Prelude.{◌≡◌, ◌++◌, List, ℕ, IfOk, OnOk};
 ghost use Rattle.ms_ir.specs.SoundFunc.{IsSoundFunc};
 ghost use Rattle.ms_ir.specs.Module.{body_of};
 ghost use Rattle.ms_alias.specs.Offsets.{AreOffsetsNear};
-ghost use Rattle.ms_valid.specs.Faults.{body_there, bodies_there};
+ghost use Rattle.ms_validity.specs.Faults.{body_there, bodies_there};
 ghost use Rattle.ms_output.specs.Forms.{header_part, line_feed, times, IsForm, AreForms, AreOpen, IsWrittenOf};
 
 use crate::wanted::Wanted;

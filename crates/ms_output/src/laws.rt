@@ -4,9 +4,9 @@ ghost use Rattle.ms_ir.specs.Func.{FuncState};
 ghost use Rattle.ms_ir.specs.Module.{ModuleState};
 ghost use Rattle.ms_grammar.specs.declared.line.Line.{Line};
 ghost use Rattle.ms_read.specs.Draft.{IsDraft};
-ghost use Rattle.ms_valid.specs.Cause.{IsAccepted};
+ghost use Rattle.ms_validity.specs.Cause.{IsAccepted};
 ghost use Rattle.ms_sound.specs.Bytes.{BeginsOnce};
-ghost use Rattle.ms_accepted.specs.Func.{IsAcceptedFunc};
+ghost use Rattle.ms_valid.specs.Func.{IsAcceptedFunc};
 ghost use Rattle.ms_output.specs.Output.{IsOutput, IsRefusal};
 ghost use Rattle.ms_output.specs.declared.refusal.Refusal.{Refusal};
 ghost use Rattle.ms_output.specs.declared.wanted.Wanted.{Wanted};
@@ -29,7 +29,7 @@ pub fn accepted_begin_once()
     ensures accepted { (bytes : List ℕ) (draft : List (ℕ × Line)) (m : ModuleState) → IsDraft bytes draft → IsAccepted draft m →
         (n : ℕ) (f : FuncState) → slice_get m.bodies n ≡ Some (Some f) → IsAcceptedFunc m f }
 {
-    ms_accepted::laws::accepted_are_sound();
-    ms_accepted::laws::functions_are_accepted();
+    ms_valid::laws::accepted_are_sound();
+    ms_valid::laws::functions_are_accepted();
     ms_sound::laws::sound_functions_begin_once();
 }

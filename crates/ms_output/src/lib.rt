@@ -31,7 +31,7 @@
 //! With `call void @h(ptr %p)` in place of the store it would be refused: `Refusal { number: 3, place: 4 }`, since line 4 uses a name that is made
 //! nowhere.
 //!
-//! **What it is.** Bytes are read as a draft (`ms_read`), the draft is accepted as a module (`ms_valid`), and of the module are written the printed
+//! **What it is.** Bytes are read as a draft (`ms_read`), the draft is accepted as a module (`ms_validity`), and of the module are written the printed
 //! forms of its functions with a body, in its order and each as often as is wanted, then the module's text where it is wanted. A printed form is a
 //! header line, the annotated text (`ms_session`), and an empty line. Where bytes are not read or not accepted they are refused: 1 and 2 by the first
 //! line that is not of the profile, or passes a limit; then 3 names, 4 types, 5 edges, 6 the order of definitions and uses, each by its least line

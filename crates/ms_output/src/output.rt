@@ -72,7 +72,7 @@ fn render_draft(alloc: Global, wanted: Wanted, draft: &Draft) -> Result<Text, Un
 {
     ms_read::laws::draft_told();
     ms_read::laws::places_told();
-    ms_accepted::laws::accepted_are_sound();
+    ms_valid::laws::accepted_are_sound();
     let mut module = match accept(alloc, draft) {
         Ok(module) => module,
         Err(fault) => return Err(unaccepted(alloc, draft, fault)),

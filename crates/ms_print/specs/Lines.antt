@@ -9,6 +9,7 @@ use Rattle.ms_ir.specs.declared.inst.Val.{Val}
 use Rattle.ms_ir.specs.declared.inst.Val.TheVariants.{Num, Local, Global}
 use Rattle.ms_ir.specs.declared.inst.Arg.{Arg}
 use Rattle.ms_ir.specs.declared.inst.Entry.{Entry}
+use Rattle.ms_ir.specs.declared.inst.IndexTerm.{IndexTerm}
 use Rattle.ms_ir.specs.declared.inst.Inst.{Inst}
 use Rattle.ms_ir.specs.declared.inst.Inst.TheVariants.{Alloca, Gep, Step, Load, Store, Copy, Call, Bin, Cmp, Select, Cast, Phi}
 use Rattle.ms_ir.specs.declared.inst.Term.{Term}
@@ -19,6 +20,7 @@ use Rattle.ms_grammar.specs.declared.line.RawVal.{RawVal}
 use Rattle.ms_grammar.specs.declared.line.RawVal.TheVariants as val
 use Rattle.ms_grammar.specs.declared.line.RawArg.{RawArg}
 use Rattle.ms_grammar.specs.declared.line.RawEntry.{RawEntry}
+use Rattle.ms_grammar.specs.declared.line.RawIndex.{RawIndex}
 use Rattle.ms_grammar.specs.declared.line.RawInst.{RawInst}
 use Rattle.ms_grammar.specs.declared.line.RawInst.TheVariants as raw
 use Rattle.ms_grammar.specs.declared.line.RawTerm.{RawTerm}
@@ -67,12 +69,14 @@ raw_arg s a = record { ty = a.ty; val = raw_val s a.val; text = a.text }
 abbrev pub raw_entry : Shown → Entry → RawEntry
 raw_entry s e = record { val = raw_val s e.val; from = label_of s.labels e.from.0 }
 
--- What stands behind a call's arguments is all in its tail. No line gives a step yet: its parts are those of a getelementptr, and its index has the text
--- of its locals as it was kept.
+abbrev pub raw_index : Shown → IndexTerm → RawIndex
+raw_index s t = record { val = raw_val s t.val; ty = t.ty; scale = t.scale }
+
+-- What stands behind a call's arguments is all in its tail.
 abbrev pub raw_inst : Shown → Inst → RawInst
 raw_inst s (Alloca size head tail) = raw.Alloca size head tail
 raw_inst s (Gep base offset head index tail) = raw.Gep (raw_val s base) offset head index tail
-raw_inst s (Step base offset terms head index tail) = raw.Gep (raw_val s base) offset head index tail
+raw_inst s (Step base offset terms head index tail) = raw.Step (raw_val s base) offset (map (raw_index s) terms) head index tail
 raw_inst s (Load ty ptr tail) = raw.Load ty (raw_val s ptr) tail
 raw_inst s (Store ty val ptr tail) = raw.Store ty (raw_val s val) (raw_val s ptr) tail
 raw_inst s (Copy to from len head tail) = raw.Copy (raw_arg s to) (raw_arg s from) len head [] tail

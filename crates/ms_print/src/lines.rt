@@ -1,13 +1,15 @@
 // The line of each thing in a function, under the names that are shown.
 ghost use Rattle.std.specs.Prelude.{◌≡◌, ◌++◌, ◌∷◌, [], map, drop, slice_index_or, IfOk};
 ghost use Rattle.ms_ir.specs.declared.names.Name.TheVariants.{Absent};
-ghost use Rattle.ms_print.specs.Lines.{shown_by, local_by, label_of, word_at, raw_val, raw_arg, raw_entry, raw_inst, raw_given, raw_term, result_name};
+ghost use Rattle.ms_print.specs.Lines.{shown_by, local_by, label_of, word_at, raw_val, raw_arg, raw_entry, raw_index, raw_inst, raw_given, raw_term, result_name};
 
 use crate::numbering::{Tables, copy_name};
-use ms_grammar::{RawArg, RawArgs, RawEntries, RawEntry, RawInst, RawTerm, RawVal};
+use ms_grammar::{
+    RawArg, RawArgs, RawEntries, RawEntry, RawIndex, RawInst, RawTerm, RawTerms, RawVal,
+};
 use ms_ir::{
-    Arg, BlockNo, CastOp, Entry, Flags, FuncNo, GlobalNo, Inst, LocalNo, Name, Names, NoMemory, Op,
-    Pred, Term, Text, Ty, Val,
+    Arg, BlockNo, CastOp, Entry, Flags, FuncNo, GlobalNo, IndexTerm, Inst, LocalNo, Name, Names,
+    NoMemory, Op, Pred, Term, Text, Ty, Val,
 };
 use std::alloc::Global;
 
@@ -120,6 +122,36 @@ fn raw_entries(
     Ok(raw)
 }
 
+fn raw_index(
+    alloc: Global,
+    names: &Names,
+    tables: &Tables,
+    term: &IndexTerm,
+) -> Result<RawIndex, NoMemory>
+    ensures { IfOk result (λ t. t ≡ raw_index (shown_by names.now tables.now) term.now) }
+{
+    Ok(RawIndex {
+        val: raw_val(alloc, names, tables, &term.val)?,
+        ty: term.ty,
+        scale: term.scale,
+    })
+}
+
+fn raw_terms(
+    alloc: Global,
+    names: &Names,
+    tables: &Tables,
+    terms: &[IndexTerm],
+) -> Result<RawTerms, NoMemory>
+    ensures { IfOk result (λ r. r ≡ map (raw_index (shown_by names.now tables.now)) terms.now) }
+{
+    let mut raw = RawTerms::new(alloc);
+    for term in terms {
+        raw.push(raw_index(alloc, names, tables, term)?)?;
+    }
+    Ok(raw)
+}
+
 // In each line the texts are copied first, since what was made before a copy that fails has to be dropped there, and the drop of a
 // value has more steps than that of a text.
 fn raw_alloca(alloc: Global, size: u32, head: &Text, tail: &Text) -> Result<RawInst, NoMemory>
@@ -150,6 +182,29 @@ fn raw_gep(
         tail: copy(alloc, tail)?,
         base: raw_val(alloc, names, tables, base)?,
         offset,
+    })
+}
+
+fn raw_step(
+    alloc: Global,
+    names: &Names,
+    tables: &Tables,
+    base: &Val,
+    offset: i64,
+    terms: &[IndexTerm],
+    head: &Text,
+    index: &Text,
+    tail: &Text,
+) -> Result<RawInst, NoMemory>
+    ensures { IfOk result (λ r. r ≡ RawInst.Step (raw_val (shown_by names.now tables.now) base.now) offset (map (raw_index (shown_by names.now tables.now)) terms.now) head.now index.now tail.now) }
+{
+    Ok(RawInst::Step {
+        head: copy(alloc, head)?,
+        index: copy(alloc, index)?,
+        tail: copy(alloc, tail)?,
+        offset,
+        base: raw_val(alloc, names, tables, base)?,
+        terms: raw_terms(alloc, names, tables, terms)?,
     })
 }
 
@@ -341,8 +396,7 @@ fn raw_phi(
     })
 }
 
-// An instruction as its line says it. No line gives a step yet: it is written as a `getelementptr` with its index as that was kept, not with
-// the present values of its terms.
+// An instruction as its line says it.
 pub fn raw_inst(
     alloc: Global,
     names: &Names,
@@ -359,15 +413,25 @@ pub fn raw_inst(
             head,
             index,
             tail,
-        }
-        | Inst::Step {
+        } => raw_gep(alloc, names, tables, base, *offset, head, index, tail),
+        Inst::Step {
             base,
             offset,
-            terms: _,
+            terms,
             head,
             index,
             tail,
-        } => raw_gep(alloc, names, tables, base, *offset, head, index, tail),
+        } => raw_step(
+            alloc,
+            names,
+            tables,
+            base,
+            *offset,
+            terms.as_slice(),
+            head,
+            index,
+            tail,
+        ),
         Inst::Load { ty, ptr, tail } => raw_load(alloc, names, tables, *ty, ptr, tail),
         Inst::Store { ty, val, ptr, tail } => raw_store(alloc, names, tables, *ty, val, ptr, tail),
         Inst::Copy {

@@ -58,8 +58,17 @@ long_define row (line.Define head) says e =
     let within = token_within row says.spelled.0 (spelling word.Define) says.spelled.3 in
     omega (arith, within, define_length)
 long_define row (line.Inst _ (inst.Alloca _ _ _)) says e = absurd (cc)
+long_define row (line.Inst _ (inst.Gep _ _ _ _ _)) says e = absurd (cc)
+long_define row (line.Inst _ (inst.Step _ _ _ _ _ _)) says e = absurd (cc)
+long_define row (line.Inst _ (inst.Load _ _ _)) says e = absurd (cc)
+long_define row (line.Inst _ (inst.Store _ _ _ _)) says e = absurd (cc)
+long_define row (line.Inst _ (inst.Copy _ _ _ _ _ _)) says e = absurd (cc)
+long_define row (line.Inst _ (inst.Call _ _ _ _ _ _)) says e = absurd (cc)
+long_define row (line.Inst _ (inst.Bin _ _ _ _ _ _)) says e = absurd (cc)
+long_define row (line.Inst _ (inst.Cmp _ _ _ _ _ _)) says e = absurd (cc)
+long_define row (line.Inst _ (inst.Select _ _ _ _ _)) says e = absurd (cc)
+long_define row (line.Inst _ (inst.Cast _ _ _ _ _ _)) says e = absurd (cc)
 long_define row (line.Inst _ (inst.Phi _ _ _)) says e = absurd (cc)
-long_define row (line.Inst _ _) says e = absurd (cc)
 long_define row (line.Term _) says e = absurd (cc)
 
 -- a row that leads into a function has six bytes

@@ -1,6 +1,6 @@
 -- The lines of an accepted function give the function in order.
-use Rattle.std.proofs.Common.{◌≡◌, ◌≤◌, ◌<◌, ◌+◌, ◌^◌, ◌==◌, ℕ, suc, Bool, true, false, if◌then◌else◌, nat_lt, List, [], ◌∷◌, ◌++◌, Option, Some, None, option_map, length, map, refl, sym, ap, subst, ◌∙◌, ⊎_elim, arith, tests, append_assoc, length-append, eqb-true, eq-eqb}
-use Rattle.std.specs.Prelude.{slice_get}
+use Rattle.std.proofs.Common.{◌≡◌, ◌≢◌, ◌≤◌, ◌<◌, ◌+◌, ◌^◌, ◌==◌, ℕ, suc, Bool, true, false, if◌then◌else◌, nat_lt, List, [], ◌∷◌, ◌++◌, Option, Some, None, option_map, length, map, refl, sym, ap, subst, ◌∙◌, ⊎_elim, arith, tests, append_assoc, length-append, eqb-true, eq-eqb}
+use Rattle.std.specs.Prelude.{ℤ, slice_get}
 use Rattle.std.specs.List.{flat_map}
 use Rattle.std.specs.Option.{is_some}
 use mathlib.Core.Path.{fun_ext}
@@ -16,6 +16,7 @@ use Rattle.ms_ir.specs.declared.inst.Val.{Val}
 use Rattle.ms_ir.specs.declared.inst.Val.TheVariants as val
 use Rattle.ms_ir.specs.declared.inst.Arg.{Arg}
 use Rattle.ms_ir.specs.declared.inst.Entry.{Entry}
+use Rattle.ms_ir.specs.declared.inst.IndexTerm.{IndexTerm}
 use Rattle.ms_ir.specs.declared.inst.Inst.{Inst}
 use Rattle.ms_ir.specs.declared.inst.Inst.TheVariants as inst
 use Rattle.ms_ir.specs.declared.inst.Term.{Term}
@@ -29,23 +30,26 @@ use Rattle.ms_grammar.specs.declared.line.RawVal.{RawVal}
 use Rattle.ms_grammar.specs.declared.line.RawVal.TheVariants.{Num, Local, Global}
 use Rattle.ms_grammar.specs.declared.line.RawArg.{RawArg}
 use Rattle.ms_grammar.specs.declared.line.RawEntry.{RawEntry}
+use Rattle.ms_grammar.specs.declared.line.RawIndex.{RawIndex}
 use Rattle.ms_grammar.specs.declared.line.RawInst.{RawInst}
-use Rattle.ms_grammar.specs.declared.line.RawInst.TheVariants.{Alloca, Gep, Load, Store, Copy, Call, Bin, Cmp, Select, Cast, Phi}
+use Rattle.ms_grammar.specs.declared.line.RawInst.TheVariants.{Alloca, Gep, Step, Load, Store, Copy, Call, Bin, Cmp, Select, Cast, Phi}
 use Rattle.ms_grammar.specs.declared.line.RawTerm.{RawTerm}
 use Rattle.ms_grammar.specs.declared.line.RawTerm.TheVariants.{Br, CondBr, Ret, Unreachable}
 use Rattle.ms_resolve.specs.Meaning.{effects_in, keeps_in}
 use Rattle.ms_attrs.specs.Effects.{both}
 use Rattle.ms_grammar.specs.Parts.{behind_blank}
-use Rattle.ms_grammar.specs.Form.{name_text}
-use Rattle.ms_resolve.specs.Scope.{Scope, number_of_name, number_of_word, marks_of, sig_of, effects_of_sig, value_of, block_of, arg_of, args_of, entry_of, keeps_at, behind_first, inst_of, term_of, local_behind, locals_behind, all_made, all_locals}
-use Rattle.ms_resolve.specs.Used.{values_of, term_values, inst_blocks, term_blocks, arg_value, entry_value, entry_block}
+use Rattle.ms_grammar.specs.Form.{Scale, name_text}
+use Rattle.ms_grammar.specs.Fits.{IsLocal, FitsInst}
+use Rattle.ms_resolve.specs.Scope.{Scope, number_of_name, number_of_word, marks_of, sig_of, effects_of_sig, value_of, index_of, block_of, arg_of, args_of, entry_of, keeps_at, behind_first, inst_of, term_of, local_behind, locals_behind, all_made, all_locals}
+use Rattle.ms_resolve.specs.Used.{values_of, term_values, inst_blocks, term_blocks, arg_value, index_value, entry_value, entry_block}
 use Rattle.ms_resolve.specs.Faults.{IsIn}
-use Rattle.ms_valid.proofs.ListLemmas.{in_one, in_flat, in_right, in_here, in_append, in_nil}
+use Rattle.ms_validity.proofs.ListLemmas.{in_one, in_flat, in_right, in_here, in_append, in_nil}
 use Rattle.ms_print.specs.Numbering.{shown_name, free_after, shown_params, free_after_params, free_after_inst, free_after_block}
-use Rattle.ms_accepted.specs.Func.{IsScopeIn}
+use Rattle.ms_valid.specs.Func.{IsScopeIn}
+use Rattle.ms_valid.proofs.Values.{IsLocalTerm, terms_local}
 use Rattle.ms_again.specs.Same.{own_name, plain_param}
-use Rattle.ms_again.specs.Ordered.{number_in, result_of, results_of, results_in, place_in, local_at, ordered_local, ordered_val, ordered_inst, ordered_insts, ordered_blocks, insts_count, ordered, arg_by, entry_by, inst_by, term_by}
-use Rattle.ms_again.proofs.Renaming.{renamed_val, renamed_arg, renamed_entry, renamed_inst, renamed_term}
+use Rattle.ms_again.specs.Ordered.{number_in, result_of, results_of, results_in, place_in, local_at, ordered_local, ordered_val, ordered_inst, ordered_insts, ordered_blocks, insts_count, ordered, is_number, step_of, arg_by, index_by, entry_by, inst_by, term_by}
+use Rattle.ms_again.proofs.Renaming.{renamed_val, renamed_arg, renamed_index, renamed_entry, renamed_inst, renamed_term}
 use Rattle.ms_again.proofs.AgainNames.{own_shown}
 use Rattle.ms_again.proofs.Again.{label_again}
 use Rattle.ms_again.proofs.Names.{label_name}
@@ -53,6 +57,7 @@ use Rattle.ms_again.proofs.Plain.{plain_at, plain_insts, plain_blocks, plain_of}
 use Rattle.ms_again.proofs.Right.{shown_next}
 use Rattle.ms_reprint.proofs.Lines.{Target, ren, LineOf, BlockOf, inst_line_of, insts_lines, blocks_lines, lines_of, insts_many, inst_less, block_less, makes_as}
 use Rattle.ms_reprint.proofs.Names.{AreGiven, target_of, is_there}
+use Rattle.ms_reprint.proofs.Joined.{IsOpen, joined_open, ordered_keeps, settled_by}
 use Rattle.ms_reprint.proofs.Said.{IsKnownVal, IsKnownBlock, IsKnownUse}
 
 -- ---- what lines are read under
@@ -115,32 +120,62 @@ module _ (f : FuncState) (given : AreGiven f) (s : Scope) where
       ∙ ap (λ (n : BlockNo). let d : Entry = record { val = ordered_val f (value_of s e.val); from = n } in d ∷ rest) (block_is f given s e.from b.0)
       ∙ ap (λ (ds : List Entry). entry_by (ordered_val f) (entry_of s e) ∷ ds) (entries_are es h.1 b.1)
 
-  inst_is : (i : RawInst) → IsKnownUse (target_of f) s (values_of i) (inst_blocks i) → inst_of (named_by (target_of f) s) (renamed_inst (ren (target_of f) s) i) ≡ inst_by (ordered_val f) (inst_of s i)
-  inst_is (Alloca size head rest) h = refl
-  inst_is (Gep base offset head index rest) h = ap (λ w. inst.Gep w offset head index rest) (val_is f given s base h.vals.0)
-  inst_is (Load ty ptr rest) h = ap (λ w. inst.Load ty w rest) (val_is f given s ptr h.vals.0)
-  inst_is (Store ty x ptr rest) h =
+  terms_are : (ts : List RawIndex) → Each (IsKnownVal (target_of f) s) (map index_value ts) →
+      map (index_of (named_by (target_of f) s)) (map (renamed_index (ren (target_of f) s)) ts) ≡ map (index_by (ordered_val f)) (map (index_of s) ts)
+  terms_are [] h = refl
+  terms_are (t ∷ ts) h =
+      let rest = map (index_of (named_by (target_of f) s)) (map (renamed_index (ren (target_of f) s)) ts) in
+      ap (λ (w : Val). let d : IndexTerm = record { val = w; ty = t.ty; scale = t.scale } in d ∷ rest) (val_is f given s t.val h.0)
+      ∙ ap (λ (ds : List IndexTerm). index_by (ordered_val f) (index_of s t) ∷ ds) (terms_are ts h.1)
+
+  -- locals stay what they are
+  local_open : (v : RawVal) → IsLocal v → is_number (ordered_val f (value_of s v)) ≡ false
+  local_open (Num ty n) h = absurd h
+  local_open (Local n) h = refl
+  local_open (Global n) h = absurd h
+
+  terms_open : (ts : List RawIndex) → Each IsLocalTerm ts → Each IsOpen (map (index_by (ordered_val f)) (map (index_of s) ts))
+  terms_open [] h = tt
+  terms_open (t ∷ ts) h = (local_open t.val h.0, terms_open ts h.1)
+
+  some_step : (b : Val) (o : ℤ) (ts : List RawIndex) (head index tail : List ℕ) → ts ≢ [] →
+      step_of b o (map (index_by (ordered_val f)) (map (index_of s) ts)) head index tail ≡ inst.Step b o (map (index_by (ordered_val f)) (map (index_of s) ts)) head index tail
+  some_step b o [] head index tail some = absurd (some refl)
+  some_step b o (t ∷ ts) head index tail some = refl
+
+  inst_is : (scale : Scale) (i : RawInst) → FitsInst scale i → IsKnownUse (target_of f) s (values_of i) (inst_blocks i) → inst_of (named_by (target_of f) s) (renamed_inst (ren (target_of f) s) i) ≡ inst_by (ordered_val f) (inst_of s i)
+  inst_is scale (Alloca size head rest) fits h = refl
+  inst_is scale (Gep base offset head index rest) fits h = ap (λ w. inst.Gep w offset head index rest) (val_is f given s base h.vals.0)
+  inst_is scale (Step base offset terms head index rest) fits h =
+      let v = ordered_val f in
+      let us = map (index_by v) (map (index_of s) terms) in
+      ap (λ w. inst.Step w offset (map (index_of (named_by (target_of f) s)) (map (renamed_index (ren (target_of f) s)) terms)) head index rest) (val_is f given s base h.vals.0)
+      ∙ ap (λ ts. inst.Step (v (value_of s base)) offset ts head index rest) (terms_are terms h.vals.1)
+      ∙ sym (some_step (v (value_of s base)) offset terms head index rest fits.1)
+      ∙ sym (joined_open (v (value_of s base)) offset us head index rest (terms_open terms (terms_local scale.sizes scale.items terms fits.2)))
+  inst_is scale (Load ty ptr rest) fits h = ap (λ w. inst.Load ty w rest) (val_is f given s ptr h.vals.0)
+  inst_is scale (Store ty x ptr rest) fits h =
       ap (λ w. inst.Store ty w (value_of (named_by (target_of f) s) (renamed_val (ren (target_of f) s) ptr)) rest) (val_is f given s x h.vals.0)
       ∙ ap (λ w. inst.Store ty (ordered_val f (value_of s x)) w rest) (val_is f given s ptr h.vals.1.0)
-  inst_is (Copy to from len head behind rest) h =
+  inst_is scale (Copy to from len head behind rest) fits h =
       let tail = behind_blank behind ++ rest in
       ap (λ a. inst.Copy a (arg_of (named_by (target_of f) s) false (renamed_arg (ren (target_of f) s) from)) len head tail) (arg_is false to h.vals.0)
       ∙ ap (λ a. inst.Copy (arg_by (ordered_val f) (arg_of s false to)) a len head tail) (arg_is false from h.vals.1.0)
-  inst_is (Call callee ret args head behind rest) h =
+  inst_is scale (Call callee ret args head behind rest) fits h =
       let n = number_of_word s.funcs (name_text callee) in
       ap (λ (bs : List Arg). inst.Call (record { 0 = n }) ret bs (both (s.effects behind) (effects_of_sig (sig_of s n))) head (behind_blank behind ++ rest)) (args_are (marks_of (sig_of s n)) args h.vals)
-  inst_is (Bin op flags ty x y rest) h =
+  inst_is scale (Bin op flags ty x y rest) fits h =
       ap (λ w. inst.Bin op flags ty w (value_of (named_by (target_of f) s) (renamed_val (ren (target_of f) s) y)) rest) (val_is f given s x h.vals.0)
       ∙ ap (λ w. inst.Bin op flags ty (ordered_val f (value_of s x)) w rest) (val_is f given s y h.vals.1.0)
-  inst_is (Cmp pred flags ty x y rest) h =
+  inst_is scale (Cmp pred flags ty x y rest) fits h =
       ap (λ w. inst.Cmp pred flags ty w (value_of (named_by (target_of f) s) (renamed_val (ren (target_of f) s) y)) rest) (val_is f given s x h.vals.0)
       ∙ ap (λ w. inst.Cmp pred flags ty (ordered_val f (value_of s x)) w rest) (val_is f given s y h.vals.1.0)
-  inst_is (Select c ty x y rest) h =
+  inst_is scale (Select c ty x y rest) fits h =
       ap (λ w. inst.Select w ty (value_of (named_by (target_of f) s) (renamed_val (ren (target_of f) s) x)) (value_of (named_by (target_of f) s) (renamed_val (ren (target_of f) s) y)) rest) (val_is f given s c h.vals.0)
       ∙ ap (λ w. inst.Select (ordered_val f (value_of s c)) ty w (value_of (named_by (target_of f) s) (renamed_val (ren (target_of f) s) y)) rest) (val_is f given s x h.vals.1.0)
       ∙ ap (λ w. inst.Select (ordered_val f (value_of s c)) ty (ordered_val f (value_of s x)) w rest) (val_is f given s y h.vals.1.1.0)
-  inst_is (Cast op flags from x to rest) h = ap (λ w. inst.Cast op flags from w to rest) (val_is f given s x h.vals.0)
-  inst_is (Phi ty entries rest) h = ap (λ es. inst.Phi ty es rest) (entries_are entries h.vals h.froms)
+  inst_is scale (Cast op flags from x to rest) fits h = ap (λ w. inst.Cast op flags from w to rest) (val_is f given s x h.vals.0)
+  inst_is scale (Phi ty entries rest) fits h = ap (λ es. inst.Phi ty es rest) (entries_are entries h.vals h.froms)
 
   term_is : (x : RawTerm) → IsKnownUse (target_of f) s (term_values x) (term_blocks x) → term_of (named_by (target_of f) s) (renamed_term (ren (target_of f) s) x) ≡ term_by (ordered_val f) (term_of s x)
   term_is (Br to rest) h = ap (λ n. term.Br n rest) (block_is f given s to h.froms.0)
@@ -260,7 +295,8 @@ pub line_inst : (m : ModuleState) (f : FuncState) (given : AreGiven f) (x : Plac
     inst_of (scope_in m (target_of f)) (renamed_inst (ren (target_of f) h.said.scope) h.said.line) ≡ inst_by (ordered_val f) x.inst
 line_inst m f given x h facts =
     ap (λ (s : Scope). inst_of s (renamed_inst (ren (target_of f) h.said.scope) h.said.line)) (sym (scope_is m (target_of f) h.said.scope h.said.in_module))
-    ∙ inst_is f given h.said.scope h.said.line facts.known ∙ ap (inst_by (ordered_val f)) (sym h.said.is)
+    ∙ inst_is f given h.said.scope h.said.says.scale h.said.line h.said.says.fits.1 facts.known ∙ ap (inst_by (ordered_val f)) (sym h.said.is)
+    ∙ settled_by (ordered_val f) (ordered_keeps f) x.inst
 
 block_term : (m : ModuleState) (f : FuncState) (given : AreGiven f) (b : Block) (h : BlockOf m b) → BlockFacts m f b h →
     term_of (scope_in m (target_of f)) (renamed_term (ren (target_of f) h.term.scope) h.term.line) ≡ term_by (ordered_val f) b.term

@@ -26,7 +26,7 @@ use Rattle.ms_grammar.specs.Fits.{IsInt, IsValue, FitsTerm}
 use Rattle.ms_grammar.specs.declared.line.RawVal.{RawVal}
 use Rattle.ms_grammar.specs.declared.line.RawVal.TheVariants.{Num, Local, Global}
 use Rattle.ms_grammar.specs.declared.line.RawInst.{RawInst}
-use Rattle.ms_grammar.specs.declared.line.RawInst.TheVariants.{Alloca, Gep, Load, Store, Copy, Call, Bin, Cmp, Select, Cast, Phi}
+use Rattle.ms_grammar.specs.declared.line.RawInst.TheVariants.{Alloca, Gep, Step, Load, Store, Copy, Call, Bin, Cmp, Select, Cast, Phi}
 use Rattle.ms_grammar.specs.declared.line.RawTerm.{RawTerm}
 use Rattle.ms_grammar.specs.declared.line.RawTerm.TheVariants.{Br, CondBr, Ret, Unreachable}
 use Rattle.ms_resolve.specs.Shape.{InstLine, BlockLines, FuncLines}
@@ -36,10 +36,10 @@ use Rattle.ms_resolve.specs.Used.{Names, values_of, term_values, inst_blocks, te
 use Rattle.ms_resolve.specs.Faults.{IsIn, IsMadeAgain, StandsAt, UsesUnknown, HasFaultIn}
 use Rattle.ms_resolve.specs.Faults as named
 use Rattle.ms_resolve.proofs.FirstFacts.{local_first, block_first}
-use Rattle.ms_valid.specs.Faults.{HasInst, HasTerm, CallsOtherwise, ReturnsOtherwise, HasTypeFaultIn, HasEdgeFaultIn, HasOrderFaultIn, type_of_arg}
-use Rattle.ms_valid.specs.Faults as valid
-use Rattle.ms_valid.proofs.ListLemmas.{in_nil, in_one, in_flat, in_append, get_map, map_get}
-use Rattle.ms_accepted.specs.Func.{IsAcceptedFunc}
+use Rattle.ms_validity.specs.Faults.{HasInst, HasTerm, CallsOtherwise, ReturnsOtherwise, HasTypeFaultIn, HasEdgeFaultIn, HasOrderFaultIn, type_of_arg}
+use Rattle.ms_validity.specs.Faults as valid
+use Rattle.ms_validity.proofs.ListLemmas.{in_nil, in_one, in_flat, in_append, get_map, map_get}
+use Rattle.ms_valid.specs.Func.{IsAcceptedFunc}
 use Rattle.ms_again.specs.Same.{plain_param}
 use Rattle.ms_again.specs.Ordered.{results_in, place_in, local_at, arg_by, ordered, ordered_local, ordered_val}
 use Rattle.ms_again.proofs.AgainNames.{none_small}
@@ -52,6 +52,7 @@ use Rattle.ms_reprint.proofs.Sound.{was_giver, was_local}
 use Rattle.ms_reprint.proofs.Lines.{ren, LineOf, BlockOf, inst_line_of, insts_lines, lines_of_block, blocks_lines, lines_of, things, func_made_as, locals_are, blocks_are, names_are}
 use Rattle.ms_reprint.proofs.Names.{AreGiven, target_of, is_there}
 use Rattle.ms_reprint.proofs.Said.{IsKnownVal, IsKnownBlock, IsKnownUse, inst_use, term_use}
+use Rattle.ms_reprint.proofs.Plain.{SaidWithNumbers, plain_said, settled_result, settled_sound}
 use Rattle.ms_reprint.proofs.Built.{InstFacts, AllInsts, BlockFacts, AllBlocks}
 use Rattle.ms_print.specs.Numbering.{free_after, free_after_inst, free_after_block, free_after_params}
 
@@ -70,6 +71,7 @@ func_lines m f w = lines_of m (target_of f) w.accepted.all_said.head f w.blocks
 pub result_made : (s : Scope) (i : RawInst) → has_result (inst_of s i) ≡ makes i
 result_made s (Alloca size head rest) = refl
 result_made s (Gep base offset head index rest) = refl
+result_made s (Step base offset terms head index rest) = refl
 result_made s (Load ty ptr rest) = refl
 result_made s (Store ty v ptr rest) = refl
 result_made s (Copy to from len head behind rest) = refl
@@ -103,11 +105,11 @@ pub none_result : (o : Option LocalNo) → is_some o ≡ false → o ≡ None
 none_result None e = refl
 none_result (Some l) e = absurd (cc)
 
-pub inst_both : (m : ModuleState) (f : FuncState) → IsNumbered f → IsAcceptedFunc m f → AreGiven f → (b k : ℕ) (x : Placed) → slice_get (insts_at f.blocks b) k ≡ Some x → (h : LineOf m x) × InstFacts m f x h
-inst_both m f numbered a given b k x at =
-    let said = a.all_said.insts b k x at in
-    let made : makes said.line ≡ is_some x.result = sym (result_made said.scope said.line) ∙ ap has_result (sym said.is) ∙ sym (numbered.gives b k x at) in
-    let sound : IsSoundInst f b k (inst_of said.scope said.line) = subst (λ (i : Inst). IsSoundInst f b k i) said.is (a.sound.insts b k x at) in (
+pub inst_both : SaidWithNumbers → (m : ModuleState) (f : FuncState) → IsNumbered f → IsAcceptedFunc m f → AreGiven f → (b k : ℕ) (x : Placed) → slice_get (insts_at f.blocks b) k ≡ Some x → (h : LineOf m x) × InstFacts m f x h
+inst_both law m f numbered a given b k x at =
+    let said = plain_said law m x.inst (a.all_said.insts b k x at) in
+    let made : makes said.line ≡ is_some x.result = sym (result_made said.scope said.line) ∙ ap has_result (sym said.is) ∙ settled_result x.inst ∙ sym (numbered.gives b k x at) in
+    let sound : IsSoundInst f b k (inst_of said.scope said.line) = subst (λ (i : Inst). IsSoundInst f b k i) said.is (settled_sound f b k x.inst (a.sound.insts b k x at)) in (
       record { said = said; makes_is = made; unnamed = λ e. a.unnamed b k x at (none_result x.result e) },
       record {
         known = inst_use f given said.scope b k said.line sound;
@@ -115,10 +117,10 @@ inst_both m f numbered a given b k x at =
       },
     )
 
-abbrev pub lined : (m : ModuleState) (f : FuncState) → IsNumbered f → IsAcceptedFunc m f → AreGiven f → Lined m f
-lined m f numbered a given =
+abbrev pub lined : SaidWithNumbers → (m : ModuleState) (f : FuncState) → IsNumbered f → IsAcceptedFunc m f → AreGiven f → Lined m f
+lined law m f numbered a given =
     let both = blocks_both m f f.blocks (λ b x at.
-    let insts = insts_both m f x.insts (λ k y e. inst_both m f numbered a given b k y (ap (λ (xs : List Placed). slice_get xs k) (block_insts f.blocks b x at) ∙ e)) in
+    let insts = insts_both m f x.insts (λ k y e. inst_both law m f numbered a given b k y (ap (λ (xs : List Placed). slice_get xs k) (block_insts f.blocks b x at) ∙ e)) in
     let said = a.all_said.terms b x at in
     let sound : IsSoundTerm f b (term_of said.scope said.line) = subst (λ (t : Term). IsSoundTerm f b t) said.is (a.sound.terms b x at) in (
       record { insts = insts.0; term = said },

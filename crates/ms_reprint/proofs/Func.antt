@@ -18,7 +18,7 @@ use Rattle.ms_grammar.specs.declared.keyword.Keyword.TheVariants as word
 use Rattle.ms_grammar.specs.declared.line.Line.{Line}
 use Rattle.ms_grammar.specs.declared.line.Line.TheVariants as said
 use Rattle.ms_grammar.specs.declared.line.RawInst.{RawInst}
-use Rattle.ms_grammar.specs.declared.line.RawInst.TheVariants.{Alloca, Gep, Load, Store, Copy, Call, Bin, Cmp, Select, Cast, Phi}
+use Rattle.ms_grammar.specs.declared.line.RawInst.TheVariants.{Alloca, Gep, Step, Load, Store, Copy, Call, Bin, Cmp, Select, Cast, Phi}
 use Rattle.ms_line.specs.Sorts.{sort_of, sort_of_inst}
 use Rattle.ms_line.specs.declared.sort.Sort.{Sort}
 use Rattle.ms_line.specs.declared.sort.Sort.TheVariants as sort
@@ -39,9 +39,10 @@ use Rattle.ms_again.proofs.Placed.{inst_sort, IsStart, inst_starts}
 use Rattle.ms_again.proofs.Quiet.{IsPrinted, printed_by}
 use Rattle.ms_again.proofs.Right.{shown_next}
 use Rattle.ms_again.proofs.Sites.{IsEntryBy, IsBlockBy, IsFuncBy}
-use Rattle.ms_accepted.specs.Func.{IsWordOrNone}
-use Rattle.ms_accepted.specs.Func as words
-use Rattle.ms_valid.proofs.ListLemmas.{in_left, in_right, flat_in, map_get, in_here}
+use Rattle.ms_valid.specs.Func.{IsWordOrNone}
+use Rattle.ms_valid.specs.Func as words
+use Rattle.ms_validity.proofs.ListLemmas.{in_left, in_right, flat_in, map_get, in_here}
+use Rattle.ms_reprint.proofs.Plain.{settled_phi, settled_alloca}
 use Rattle.ms_reprint.proofs.Lines.{ren, LineOf, BlockOf, insts_lines, lines_of_block, blocks_lines, insts_many, inst_less, block_less}
 use Rattle.ms_reprint.proofs.Names.{AreGiven, target_of, named_shown}
 use Rattle.ms_reprint.proofs.Said.{inst_said, term_said, define_said}
@@ -244,6 +245,7 @@ walk_one : (first front : Bool) (i : RawInst) (s : Scope) (phi : is_phi (inst_of
 walk_one first front (Phi ty entries rest) s phi alloca = step_phi first front (phi refl) ∙ ap (λ (b : Bool). Some (place_of first (b && true))) (sym (phi refl))
 walk_one first front (Alloca size head rest) s phi alloca = step_alloca first front (alloca refl) ∙ ap (λ (b : Bool). Some (place_of first b)) (sym (not_front front))
 walk_one first front (Gep base offset head index rest) s phi alloca = step_other first front ∙ ap (λ (b : Bool). Some (place_of first b)) (sym (not_front front))
+walk_one first front (Step base offset terms head index rest) s phi alloca = step_other first front ∙ ap (λ (b : Bool). Some (place_of first b)) (sym (not_front front))
 walk_one first front (Load ty ptr rest) s phi alloca = step_other first front ∙ ap (λ (b : Bool). Some (place_of first b)) (sym (not_front front))
 walk_one first front (Store ty v ptr rest) s phi alloca = step_other first front ∙ ap (λ (b : Bool). Some (place_of first b)) (sym (not_front front))
 walk_one first front (Copy to from len head behind rest) s phi alloca = step_other first front ∙ ap (λ (b : Bool). Some (place_of first b)) (sym (not_front front))
@@ -259,8 +261,8 @@ walk_insts m f first front next [] h sorted = (Ended, step_term first front, ref
 walk_insts m f first front next (x ∷ xs) h sorted =
     let i = h.0.said.line in
     let s = h.0.said.scope in
-    let phi : is_phi (inst_of s i) ≡ is_phi x.inst = ap is_phi (sym h.0.said.is) in
-    let alloca : is_alloca (inst_of s i) ≡ is_alloca x.inst = ap is_alloca (sym h.0.said.is) in
+    let phi : is_phi (inst_of s i) ≡ is_phi x.inst = ap is_phi (sym h.0.said.is) ∙ settled_phi x.inst in
+    let alloca : is_alloca (inst_of s i) ≡ is_alloca x.inst = ap is_alloca (sym h.0.said.is) ∙ settled_alloca x.inst in
     let step = ap (next_place (place_of first front)) (inst_sort (ren (target_of f) s) i) ∙ walk_one first front i s (λ t. sorted.0 (sym phi ∙ t)) (λ t. sorted.1 (sym alloca ∙ t))
     ∙ ap (λ (b : Bool). Some (place_of first (front && b))) phi in
     (place_of first (front && is_phi x.inst), step, walk_insts m f first (front && is_phi x.inst) (free_after_inst next x) xs h.1 sorted.2)

@@ -23,7 +23,7 @@ use Rattle.ms_resolve.specs.Shape.{ItemLines, plain, body}
 use Rattle.ms_resolve.specs.Scope.{Meaning, mark_of, sig_in}
 use Rattle.ms_resolve.specs.Module.{func_names_in, global_names_in, groups_of, sigs_in, items_from}
 use Rattle.ms_print.specs.Numbering.{free_after, shown_params}
-use Rattle.ms_accepted.specs.Module.{IsHeadOf, IsDeclaredBy, IsGlobalBy, IsSaidLine, IsEnd}
+use Rattle.ms_valid.specs.Module.{IsHeadOf, IsDeclaredBy, IsGlobalBy, IsSaidLine, IsEnd}
 use Rattle.ms_reprint.proofs.Faults.{Lined, func_lines}
 
 -- ---- items whose functions have their lines

@@ -2,11 +2,13 @@ pub mod Built
 pub mod Faults
 pub mod Func
 pub mod Items
+pub mod Joined
 pub mod Limits
 pub mod Lines
 pub mod Names
 pub mod Own
 pub mod Parts
+pub mod Plain
 pub mod Reprint
 pub mod Said
 pub mod Sound

@@ -4,11 +4,12 @@ use Rattle.std.proofs.lemmas.Bool.{cases_lt}
 use Rattle.std.proofs.lemmas.Int.{by_lt_z}
 use Rattle.ms_grammar.specs.Kept.{Each}
 use Rattle.ms_grammar.specs.Grammar.{Says}
-use Rattle.ms_grammar.specs.Limits.{names_of, IsShort, IsSmallInst, IsSmall, IsWithinLimits}
+use Rattle.ms_grammar.specs.declared.line.RawIndex.{RawIndex}
+use Rattle.ms_grammar.specs.Limits.{names_of, IsShort, IsNearOffset, IsSmallTerm, IsSmallInst, IsSmall, IsWithinLimits}
 use Rattle.ms_grammar.specs.declared.line.Line.{Line}
 use Rattle.ms_grammar.specs.declared.line.Line.TheVariants as said
 use Rattle.ms_grammar.specs.declared.line.RawInst.{RawInst}
-use Rattle.ms_grammar.specs.declared.line.RawInst.TheVariants.{Alloca, Gep, Load, Store, Copy, Call, Bin, Cmp, Select, Cast, Phi}
+use Rattle.ms_grammar.specs.declared.line.RawInst.TheVariants.{Alloca, Gep, Step, Load, Store, Copy, Call, Bin, Cmp, Select, Cast, Phi}
 use Rattle.ms_line.specs.Sorts.{sort_of}
 use Rattle.ms_line.specs.declared.sort.Sort.{Sort}
 use Rattle.ms_line.specs.declared.sort.Sort.TheVariants.{Define}
@@ -45,9 +46,17 @@ shorts_told : (names : List (List ℕ)) → Told (Each IsShort names)
 shorts_told [] = inl tt
 shorts_told (n ∷ names) = both_told (at_most (length n) 255) (shorts_told names)
 
+offset_told : (offset : ℤ) → Told (IsNearOffset offset)
+offset_told offset = both_told (at_most_z (pos 0 -ℤ pos 2147483648) offset) (at_most_z offset (pos 2147483648))
+
+terms_told : (ts : List RawIndex) → Told (Each IsSmallTerm ts)
+terms_told [] = inl tt
+terms_told (t ∷ ts) = both_told (at_most t.scale 2147483648) (terms_told ts)
+
 inst_told : (i : RawInst) → Told (IsSmallInst i)
 inst_told (Alloca size head rest) = at_most size 65536
-inst_told (Gep base offset head index rest) = both_told (at_most_z (pos 0 -ℤ pos 2147483648) offset) (at_most_z offset (pos 2147483648))
+inst_told (Gep base offset head index rest) = offset_told offset
+inst_told (Step base offset terms head index rest) = both_told (offset_told offset) (terms_told terms)
 inst_told (Load ty ptr rest) = inl tt
 inst_told (Store ty val ptr rest) = inl tt
 inst_told (Copy to from len head behind rest) = at_most len 4096

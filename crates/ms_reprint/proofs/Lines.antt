@@ -14,11 +14,13 @@ use Rattle.ms_resolve.specs.Shape.{InstLine, BlockLines, FuncLines, HasLabel, Ha
 use Rattle.ms_resolve.specs.Made.{Made, makes, param_made, inst_made, block_made, made_in, named_in, locals_of, blocks_of}
 use Rattle.ms_resolve.specs.Scope.{Scope, number_of_name}
 use Rattle.ms_print.specs.Numbering.{shown_name, free_after, shown_params, free_after_params, free_after_inst, free_after_insts, free_after_block}
-use Rattle.ms_accepted.specs.Func.{IsSaidInst, IsSaidTerm}
+use Rattle.ms_valid.specs.Func.{IsSaidTerm}
 use Rattle.ms_again.proofs.Renaming.{Renaming, renamed_inst, renamed_term}
 use Rattle.ms_again.proofs.Names.{shown, named_by, free_by, locals_in, blocks_in, params_free}
 use Rattle.ms_again.proofs.Again.{label_again}
 use Rattle.ms_again.proofs.Right.{names_in, shown_next}
+use Rattle.ms_reprint.proofs.Joined.{settled}
+use Rattle.ms_reprint.proofs.Plain.{IsPlainInst}
 use Rattle.ms_again.proofs.AgainNames.{AreAgain, IsAgain, again_join, keys_again, locals_keyed, blocks_keyed, names_keyed, locals_by_key, blocks_by_key, name_by_key, label_named, label_block, params_again, params_next, params_less, makes_again, made_as, one_again, one_next, one_less, label_is_again, free_join}
 
 -- ---- what a function makes
@@ -55,9 +57,9 @@ ren t s = record {
   block = λ n. slice_index_or t.blocks (number_of_name s.blocks n) Absent;
 }
 
--- some line says the instruction, and gives a result where it does
+-- some line says the instruction with its numbers summed up, and gives a result where it does
 pub record LineOf (m : ModuleState) (x : Placed) : Type 0 where
-  pub said : IsSaidInst m x.inst
+  pub said : IsPlainInst m (settled x.inst)
   pub makes_is : makes said.line ≡ is_some x.result
   pub unnamed : is_some x.result ≡ false → x.name ≡ Absent
 

@@ -16,8 +16,8 @@ use Rattle.ms_resolve.specs.Scope.{number_of_name}
 use Rattle.ms_resolve.specs.Faults.{IsIn}
 use Rattle.ms_resolve.proofs.Members.{Among, among_in}
 use Rattle.ms_print.specs.Numbering.{shown_name, free_after}
-use Rattle.ms_accepted.specs.Func.{name_of_param, name_of_inst, names_of_block, IsWordOrNone}
-use Rattle.ms_accepted.specs.Func as words
+use Rattle.ms_valid.specs.Func.{name_of_param, name_of_inst, names_of_block, IsWordOrNone}
+use Rattle.ms_valid.specs.Func as words
 use Rattle.ms_again.specs.Ordered.{number_in, result_of, results_of, results_in, local_at}
 use Rattle.ms_again.proofs.Names.{shown, named_by, locals_in, blocks_in, locals_append, blocks_append}
 use Rattle.ms_again.proofs.AgainNames.{made_as}

@@ -14,16 +14,17 @@ use Rattle.ms_grammar.specs.declared.line.RawVal.{RawVal}
 use Rattle.ms_grammar.specs.declared.line.RawVal.TheVariants.{Num, Local, Global}
 use Rattle.ms_grammar.specs.declared.line.RawArg.{RawArg}
 use Rattle.ms_grammar.specs.declared.line.RawEntry.{RawEntry}
+use Rattle.ms_grammar.specs.declared.line.RawIndex.{RawIndex}
 use Rattle.ms_grammar.specs.declared.line.RawInst.{RawInst}
-use Rattle.ms_grammar.specs.declared.line.RawInst.TheVariants.{Alloca, Gep, Load, Store, Copy, Call, Bin, Cmp, Select, Cast, Phi}
+use Rattle.ms_grammar.specs.declared.line.RawInst.TheVariants.{Alloca, Gep, Step, Load, Store, Copy, Call, Bin, Cmp, Select, Cast, Phi}
 use Rattle.ms_grammar.specs.declared.line.RawTerm.{RawTerm}
 use Rattle.ms_grammar.specs.declared.line.RawTerm.TheVariants.{Br, CondBr, Ret, Unreachable}
 use Rattle.ms_resolve.specs.Shape.{LabelLine, InstLine, BlockLines, FuncLines}
 use Rattle.ms_resolve.specs.Made.{Made, made_in, locals_of, blocks_of}
 use Rattle.ms_resolve.specs.Scope.{Scope, number_of_name}
-use Rattle.ms_resolve.specs.Used.{values_of, term_values, inst_blocks, term_blocks, arg_value, entry_value, entry_block}
+use Rattle.ms_resolve.specs.Used.{values_of, term_values, inst_blocks, term_blocks, arg_value, index_value, entry_value, entry_block}
 use Rattle.ms_print.specs.Numbering.{shown_name, free_after, shown_params, free_after_params, free_after_inst, free_after_insts, free_after_block}
-use Rattle.ms_again.proofs.Renaming.{Renaming, renamed_val, renamed_arg, renamed_entry, renamed_inst, renamed_term}
+use Rattle.ms_again.proofs.Renaming.{Renaming, renamed_val, renamed_arg, renamed_index, renamed_entry, renamed_inst, renamed_term}
 use Rattle.ms_again.proofs.Again.{renaming, inst_said, insts_said, label_said, block_said, blocks_said, start, func_said, label_again}
 use Rattle.ms_again.proofs.AgainNames.{AreAgain, IsAgain, key_of, locals_by_key, blocks_by_key, locals_keyed, blocks_keyed, label_is_again}
 use Rattle.ms_again.proofs.Names.{shown, named_by, locals_listed, blocks_listed, locals_by, blocks_by, label_name, params_free, inst_free, insts_free, block_free}
@@ -144,9 +145,18 @@ module _ (t : Target) (r : Renaming) (stay : Stays t r) (s : Scope) where
       ∙ ap (λ n. let d : RawEntry = record { val = renamed_val (ren t s) e.val; from = n } in d ∷ rest) (stay.block (number_of_name s.blocks e.from) b.0)
       ∙ ap (λ (ds : List RawEntry). renamed_entry (ren t s) e ∷ ds) (entries_stay es h.1 b.1)
 
+  terms_stay : (ts : List RawIndex) → Each (IsKnownVal t s) (map index_value ts) → map (renamed_index r) (map (renamed_index (ren t s)) ts) ≡ map (renamed_index (ren t s)) ts
+  terms_stay [] h = refl
+  terms_stay (x ∷ xs) h =
+      ap (λ v. let d : RawIndex = record { val = v; ty = x.ty; scale = x.scale } in d ∷ map (renamed_index r) (map (renamed_index (ren t s)) xs)) (val_stays x.val h.0)
+      ∙ ap (λ (ds : List RawIndex). renamed_index (ren t s) x ∷ ds) (terms_stay xs h.1)
+
   inst_stays : (i : RawInst) → IsKnownUse t s (values_of i) (inst_blocks i) → renamed_inst r (renamed_inst (ren t s) i) ≡ renamed_inst (ren t s) i
   inst_stays (Alloca size head rest) h = refl
   inst_stays (Gep base offset head index rest) h = ap (λ w. Gep w offset head index rest) (val_stays base h.vals.0)
+  inst_stays (Step base offset terms head index rest) h =
+      ap (λ w. Step w offset (map (renamed_index r) (map (renamed_index (ren t s)) terms)) head index rest) (val_stays base h.vals.0)
+      ∙ ap (λ ts. Step (renamed_val (ren t s) base) offset ts head index rest) (terms_stay terms h.vals.1)
   inst_stays (Load ty ptr rest) h = ap (λ w. Load ty w rest) (val_stays ptr h.vals.0)
   inst_stays (Store ty x ptr rest) h =
       ap (λ w. Store ty w (renamed_val r (renamed_val (ren t s) ptr)) rest) (val_stays x h.vals.0) ∙ ap (λ w. Store ty (renamed_val (ren t s) x) w rest) (val_stays ptr h.vals.1.0)

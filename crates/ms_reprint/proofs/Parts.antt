@@ -20,8 +20,9 @@ use Rattle.ms_ir.specs.Types.{is_alloca, is_phi, has_entry, is_indexed, types_st
 use Rattle.ms_ir.specs.Uses.{Operand, Use, of_type, arg_operand, index_operand, entry_operand, operands_of, term_operands, used_at, entry_use, uses_at, term_uses_at}
 use Rattle.ms_ir.specs.Edits.{term_at}
 use Rattle.ms_resolve.specs.Faults.{IsIn}
-use Rattle.ms_valid.proofs.ListLemmas.{in_here, flat_in}
-use Rattle.ms_again.specs.Ordered.{is_open, added_in, step_of, arg_by, index_by, entry_by, inst_by, term_by, number_in, result_of, results_of, results_in, ordered_val, ordered_inst, ordered_insts, ordered_blocks}
+use Rattle.ms_validity.proofs.ListLemmas.{in_here, flat_in}
+use Rattle.ms_grammar.specs.Parts.{filled}
+use Rattle.ms_again.specs.Ordered.{is_open, added_in, step_of, kept_term, arg_by, index_by, entry_by, inst_by, term_by, number_in, result_of, results_of, results_in, ordered_val, ordered_inst, ordered_insts, ordered_blocks}
 
 -- ---- places
 
@@ -131,11 +132,11 @@ term_operands_by v (Unreachable text) = refl
 pub same_result : (v : Val → Val) (i : Inst) → result_type (inst_by v i) ≡ result_type i
 same_result v (Alloca size head tail) = refl
 same_result v (Gep base offset head index tail) = refl
-same_result v (Step base offset terms head index tail) = step (v base) (offset +ℤ added_in (map (index_by v) terms)) (filter is_open (map (index_by v) terms))
+same_result v (Step base offset terms head index tail) = step (v base) (offset +ℤ added_in (map (index_by v) terms)) (filter is_open (map (index_by v) terms)) (filled (map kept_term (map (index_by v) terms)) index)
   where
-    step : (b : Val) (o : ℤ) (ts : List IndexTerm) → result_type (step_of b o ts head index tail) ≡ Some Ptr
-    step b o [] = refl
-    step b o (t ∷ ts) = refl
+    step : (b : Val) (o : ℤ) (ts : List IndexTerm) (text : List ℕ) → result_type (step_of b o ts head text tail) ≡ Some Ptr
+    step b o [] text = refl
+    step b o (t ∷ ts) text = refl
 same_result v (Load ty ptr tail) = refl
 same_result v (Store ty val ptr tail) = refl
 same_result v (Copy to from len head tail) = refl
@@ -168,16 +169,16 @@ indexed_by v (t ∷ ts) h = let both = both_true (is_indexed t) (list_all is_ind
     by true one rest = ap (λ (c : Bool). c && list_all is_indexed (filter is_open (map (index_by v) ts))) one ∙ rest
     by false one rest = rest
 
-step_form : (base b : Val) (offset o : ℤ) (terms ts : List IndexTerm) (head index tail : List ℕ) → (list_all is_indexed terms ≡ true → list_all is_indexed ts ≡ true) →
-    HasForm (Step base offset terms head index tail) (step_of b o ts head index tail)
-step_form base b offset o terms [] head index tail h = record { types = λ t. refl; alloca = refl; phi = refl; entered = refl }
-step_form base b offset o terms (t ∷ ts) head index tail h = record { types = h; alloca = refl; phi = refl; entered = refl }
+step_form : (base b : Val) (offset o : ℤ) (terms ts : List IndexTerm) (head index text tail : List ℕ) → (list_all is_indexed terms ≡ true → list_all is_indexed ts ≡ true) →
+    HasForm (Step base offset terms head index tail) (step_of b o ts head text tail)
+step_form base b offset o terms [] head index text tail h = record { types = λ t. refl; alloca = refl; phi = refl; entered = refl }
+step_form base b offset o terms (t ∷ ts) head index text tail h = record { types = h; alloca = refl; phi = refl; entered = refl }
 
 pub same_form : (v : Val → Val) (i : Inst) → HasForm i (inst_by v i)
 same_form v (Alloca size head tail) = plain_form _ _ refl refl refl refl
 same_form v (Gep base offset head index tail) = plain_form _ _ refl refl refl refl
 same_form v (Step base offset terms head index tail) =
-    step_form base (v base) offset (offset +ℤ added_in (map (index_by v) terms)) terms (filter is_open (map (index_by v) terms)) head index tail (indexed_by v terms)
+    step_form base (v base) offset (offset +ℤ added_in (map (index_by v) terms)) terms (filter is_open (map (index_by v) terms)) head index (filled (map kept_term (map (index_by v) terms)) index) tail (indexed_by v terms)
 same_form v (Load ty ptr tail) = plain_form _ _ refl refl refl refl
 same_form v (Store ty val ptr tail) = plain_form _ _ refl refl refl refl
 same_form v (Copy to from len head tail) = plain_form _ _ refl refl refl refl
@@ -198,10 +199,10 @@ back_map g (x ∷ xs) y (suc k, lt, is) =
     let r = back_map g xs y (k, omega arith, is) in
     (r.0, (suc r.1.0, (let l = r.1.1 in omega arith), r.1.2), r.2)
 
-on_cons : {A : Type 0} (z : A) (xs : List A) (x : A) → Contains xs x → Contains (z ∷ xs) x
+pub on_cons : {A : Type 0} (z : A) (xs : List A) (x : A) → Contains xs x → Contains (z ∷ xs) x
 on_cons z xs x h = (suc h.0, (let l = h.1 in omega arith), h.2)
 
-back_filter : {A : Type 0} (p : A → Bool) (xs : List A) (x : A) → Contains (filter p xs) x → Contains xs x
+pub back_filter : {A : Type 0} (p : A → Bool) (xs : List A) (x : A) → Contains (filter p xs) x → Contains xs x
 back_filter p [] x h = h
 back_filter {A} p (z ∷ xs) x h = by (p z) h (back_filter p xs x)
   where
@@ -236,7 +237,7 @@ step_operands : (b : Val) (o : ℤ) (ts : List IndexTerm) (head index tail : Lis
 step_operands b o [] head index tail = refl
 step_operands b o (t ∷ ts) head index tail = refl
 
-on_map : {A B : Type 0} (g : A → B) (xs : List A) (x : A) → Contains xs x → Contains (map g xs) (g x)
+pub on_map : {A B : Type 0} (g : A → B) (xs : List A) (x : A) → Contains xs x → Contains (map g xs) (g x)
 on_map g [] x (k, lt, is) = absurd (let l : k < 0 = lt in omega arith)
 on_map g (z ∷ xs) x (zero, lt, is) = (zero, omega arith, ap g is)
 on_map g (z ∷ xs) x (suc k, lt, is) = on_cons (g z) (map g xs) (g x) (on_map g xs x (k, omega arith, is))
@@ -254,7 +255,7 @@ operands_by v (Alloca size head tail) o h = from_mapped v [] [] o refl h
 operands_by v (Gep base offset head index tail) o h = from_mapped v _ _ o refl h
 operands_by v (Step base offset terms head index tail) o h =
     let news = map (index_by v) terms in
-    let at = subst (λ (l : List Operand). Contains l o) (step_operands (v base) (offset +ℤ added_in news) (filter is_open news) head index tail) h in
+    let at = subst (λ (l : List Operand). Contains l o) (step_operands (v base) (offset +ℤ added_in news) (filter is_open news) head (filled (map kept_term news) index) tail) h in
     from_mapped v (of_type Ptr base ∷ map index_operand terms) (of_type Ptr (v base) ∷ map index_operand news) o
     (ap (λ (os : List Operand). of_type Ptr (v base) ∷ os) (terms_operands v terms)) (open_operands v base terms o at)
 operands_by v (Load ty ptr tail) o h = from_mapped v _ _ o refl h

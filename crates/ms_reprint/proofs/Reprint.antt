@@ -35,14 +35,14 @@ use Rattle.ms_read.specs.declared.fault.ReadFault.TheVariants.{Limit}
 use Rattle.ms_resolve.specs.Meaning.{effects_in, keeps_in}
 use Rattle.ms_resolve.specs.Shape.{LabelLine, InstLine, BlockLines, FuncLines, label_lines, inst_line, block_lines, func_lines as lines_in, item_lines, IsItem}
 use Rattle.ms_resolve.specs.Module.{groups_of, funcs_of}
-use Rattle.ms_valid.specs.Cause.{IsAccepted, HasNone}
-use Rattle.ms_valid.specs.Faults.{IsIrreducible, body_there}
-use Rattle.ms_valid.proofs.ListLemmas.{get_map, flat_in, in_here}
+use Rattle.ms_validity.specs.Cause.{IsAccepted, HasNone}
+use Rattle.ms_validity.specs.Faults.{IsIrreducible, body_there}
+use Rattle.ms_validity.proofs.ListLemmas.{get_map, flat_in, in_here}
 use Rattle.ms_print.specs.Numbering.{shown_params, free_after_params}
 use Rattle.ms_print.specs.Lines.{Shown, shown_in, inst_line as placed_line, term_line}
 use Rattle.ms_print.specs.Text.{ended, line_text, insts_text, label_text, block_text, blocks_text, func_text, no_notes, body_text, gap, items_text, module_text}
 use Rattle.ms_print.proofs.NumberingLemmas.{shown_params-length}
-use Rattle.ms_accepted.specs.Module.{IsSaidLine, AreItems, IsAcceptedModule}
+use Rattle.ms_valid.specs.Module.{IsSaidLine, AreItems, IsAcceptedModule}
 use Rattle.ms_again.specs.Again.{IsReadInOrder}
 use Rattle.ms_again.specs.Basis.{IsBasis}
 use Rattle.ms_again.specs.Ordered.{ordered}
@@ -63,6 +63,7 @@ use Rattle.ms_reprint.specs.Rows.{AreSaid}
 use Rattle.ms_reprint.proofs.Limits.{are_within}
 use Rattle.ms_reprint.proofs.Lines.{insts_many, size_of, has_blocks}
 use Rattle.ms_reprint.proofs.Names.{target_of, are_given}
+use Rattle.ms_reprint.proofs.Plain.{SaidWithNumbers}
 use Rattle.ms_reprint.proofs.Sound.{in_order}
 use Rattle.ms_reprint.proofs.Faults.{Lined, func_lines, lined}
 use Rattle.ms_reprint.proofs.Own.{own_inst, own_label, own_block, own_blocks, own_func, own_is}
@@ -112,22 +113,22 @@ func_long names f =
 
 -- ---- the functions of the items have their lines
 
-lined_items : (m : ModuleState) → ((n : ℕ) (f : FuncState) → slice_get m.bodies n ≡ Some (Some f) → IsNumbered f) → (f g : ℕ) (before : Option Bool) (xs : List Item) (groups : List (ℕ × List ℕ)) →
+lined_items : SaidWithNumbers → (m : ModuleState) → ((n : ℕ) (f : FuncState) → slice_get m.bodies n ≡ Some (Some f) → IsNumbered f) → (f g : ℕ) (before : Option Bool) (xs : List Item) (groups : List (ℕ × List ℕ)) →
     AreItems m f g xs groups → length (items_text m before xs) < 10 ^ 9 → AreLined m f g xs groups
-lined_items m numbered f g before [] groups h few = h
-lined_items m numbered f g before (item.Kept text ∷ xs) groups (inl h) few =
+lined_items law m numbered f g before [] groups h few = h
+lined_items law m numbered f g before (item.Kept text ∷ xs) groups (inl h) few =
     let both = length-append (gap before false ++ ended text) (items_text m (Some false) xs) in
-    inl (h.0, lined_items m numbered f g (Some false) xs groups h.1 (omega arith))
-lined_items m numbered f g before (item.Kept text ∷ xs) groups (inr h) few =
+    inl (h.0, lined_items law m numbered f g (Some false) xs groups h.1 (omega arith))
+lined_items law m numbered f g before (item.Kept text ∷ xs) groups (inr h) few =
     let both = length-append (gap before false ++ ended text) (items_text m (Some false) xs) in
-    inr (h.0, h.1, h.2, h.3, lined_items m numbered f g (Some false) xs h.1 h.4 (omega arith))
-lined_items m numbered f g before (item.Global number text ∷ xs) groups h few =
+    inr (h.0, h.1, h.2, h.3, lined_items law m numbered f g (Some false) xs h.1 h.4 (omega arith))
+lined_items law m numbered f g before (item.Global number text ∷ xs) groups h few =
     let both = length-append (gap before false ++ ended text) (items_text m (Some false) xs) in
-    (h.0, h.1, lined_items m numbered f (suc g) (Some false) xs groups h.2 (omega arith))
-lined_items m numbered f g before (item.Declared number text ∷ xs) groups h few =
+    (h.0, h.1, lined_items law m numbered f (suc g) (Some false) xs groups h.2 (omega arith))
+lined_items law m numbered f g before (item.Declared number text ∷ xs) groups h few =
     let both = length-append (gap before false ++ ended text) (items_text m (Some false) xs) in
-    (h.0, h.1, lined_items m numbered (suc f) g (Some false) xs groups h.2 (omega arith))
-lined_items m numbered f g before (item.Defined number ∷ xs) groups h few =
+    (h.0, h.1, lined_items law m numbered (suc f) g (Some false) xs groups h.2 (omega arith))
+lined_items law m numbered f g before (item.Defined number ∷ xs) groups h few =
     let text = body_text m.names (body_of m number.0) in
     let func = h.1.func in
     let a = h.1.accepted in
@@ -140,10 +141,10 @@ lined_items m numbered f g before (item.Defined number ∷ xs) groups h few =
       record {
         func = func;
         body_is = h.1.body_is;
-        lined = lined m func (numbered f func h.1.body_is) a (are_given func (omega arith) a.words a.apart);
+        lined = lined law m func (numbered f func h.1.body_is) a (are_given func (omega arith) a.words a.apart);
         head_of = h.1.head_of;
       },
-      lined_items m numbered (suc f) g (Some true) xs groups h.2 (omega arith),
+      lined_items law m numbered (suc f) g (Some true) xs groups h.2 (omega arith),
     )
 
 -- ---- loops
@@ -449,10 +450,10 @@ accepted_by part m a h =
       reducible = no_loops part m h;
     }
 
-pub read_again : PartIsReducible → (m : ModuleState) → IsAcceptedModule m → ((n : ℕ) (f : FuncState) → slice_get m.bodies n ≡ Some (Some f) → IsNumbered f) → length (module_text m) < 10 ^ 9 →
+pub read_again : SaidWithNumbers → PartIsReducible → (m : ModuleState) → IsAcceptedModule m → ((n : ℕ) (f : FuncState) → slice_get m.bodies n ≡ Some (Some f) → IsNumbered f) → length (module_text m) < 10 ^ 9 →
     ((n : ℕ) → IsModuleCause (module_text m) (Limit n) → ⊥) → IsReadInOrder m
-read_again part m a numbered short none =
-    let h = lined_items m numbered 0 0 None m.items m.groups a.items short in
+read_again law part m a numbered short none =
+    let h = lined_items law m numbered 0 0 None m.items m.groups a.items short in
     let all = all_items m h in
     let n = module_by m h in
     let lines = items_said None all in

@@ -19,7 +19,7 @@ use Rattle.ms_ir.specs.Func.{Placed, Block, FuncState, no_block}
 use Rattle.ms_ir.specs.Graph.{graph_of, successors}
 use Rattle.ms_ir.specs.Locals.{HasType}
 use Rattle.ms_ir.specs.Module.{ModuleState}
-use Rattle.ms_ir.specs.Uses.{Operand, arg_operand, entry_operand, operands_of, term_operands}
+use Rattle.ms_ir.specs.Uses.{Operand, arg_operand, index_operand, entry_operand, operands_of, term_operands}
 use Rattle.ms_ir.specs.Sound.{HasBadEntries, edges_between, times_in, from_of}
 use Rattle.ms_ir.specs.SoundFunc.{IsValueIn, AreValues, IsSoundInst, IsSoundTerm}
 use Rattle.ms_grammar.specs.Kept.{Each}
@@ -33,14 +33,15 @@ use Rattle.ms_grammar.specs.declared.line.RawVal.{RawVal}
 use Rattle.ms_grammar.specs.declared.line.RawVal.TheVariants.{Num, Local, Global}
 use Rattle.ms_grammar.specs.declared.line.RawArg.{RawArg}
 use Rattle.ms_grammar.specs.declared.line.RawEntry.{RawEntry}
+use Rattle.ms_grammar.specs.declared.line.RawIndex.{RawIndex}
 use Rattle.ms_grammar.specs.declared.line.RawInst.{RawInst}
-use Rattle.ms_grammar.specs.declared.line.RawInst.TheVariants.{Alloca, Gep, Load, Store, Copy, Call, Bin, Cmp, Select, Cast, Phi}
+use Rattle.ms_grammar.specs.declared.line.RawInst.TheVariants.{Alloca, Gep, Step, Load, Store, Copy, Call, Bin, Cmp, Select, Cast, Phi}
 use Rattle.ms_grammar.specs.declared.line.RawTerm.{RawTerm}
 use Rattle.ms_grammar.specs.declared.line.RawTerm.TheVariants.{Br, CondBr, Ret, Unreachable}
-use Rattle.ms_resolve.specs.Scope.{Scope, number_of_name, number_of_word, value_of, args_of, entry_of, inst_of, term_of, behind_first, marks_of, sig_of}
-use Rattle.ms_resolve.specs.Used.{values_of, term_values, inst_blocks, term_blocks, arg_value, entry_value, entry_block}
+use Rattle.ms_resolve.specs.Scope.{Scope, number_of_name, number_of_word, value_of, index_of, args_of, entry_of, inst_of, term_of, behind_first, marks_of, sig_of}
+use Rattle.ms_resolve.specs.Used.{values_of, term_values, inst_blocks, term_blocks, arg_value, index_value, entry_value, entry_block}
 use Rattle.ms_resolve.specs.Faults.{IsIn}
-use Rattle.ms_valid.proofs.ListLemmas.{get_map, map_get}
+use Rattle.ms_validity.proofs.ListLemmas.{get_map, map_get}
 use Rattle.ms_reread.proofs.Values.{EachBack}
 use Rattle.ms_reread.proofs.Pieces.{Back, behind}
 use Rattle.ms_again.specs.Ordered.{results_in, place_in, local_at}
@@ -67,9 +68,14 @@ entries_vals : (s : Scope) (ty : Ty) (es : List RawEntry) → map val_of (map (e
 entries_vals s ty [] = refl
 entries_vals s ty (e ∷ es) = ap (λ (vs : List Val). value_of s e.val ∷ vs) (entries_vals s ty es)
 
+terms_vals : (s : Scope) (ts : List RawIndex) → map val_of (map index_operand (map (index_of s) ts)) ≡ map (value_of s) (map index_value ts)
+terms_vals s [] = refl
+terms_vals s (t ∷ ts) = ap (λ (vs : List Val). value_of s t.val ∷ vs) (terms_vals s ts)
+
 inst_vals : (s : Scope) (i : RawInst) → map val_of (operands_of (inst_of s i)) ≡ map (value_of s) (values_of i)
 inst_vals s (Alloca size head rest) = refl
 inst_vals s (Gep base offset head index rest) = refl
+inst_vals s (Step base offset terms head index rest) = ap (λ (vs : List Val). value_of s base ∷ vs) (terms_vals s terms)
 inst_vals s (Load ty ptr rest) = refl
 inst_vals s (Store ty v ptr rest) = refl
 inst_vals s (Copy to from len head behind rest) = refl
@@ -175,6 +181,7 @@ entries_known f given s (e ∷ es) h =
 froms_known : (f : FuncState) (given : AreGiven f) (s : Scope) (b : ℕ) (i : RawInst) → (HasBadEntries f.blocks b (inst_of s i) → ⊥) → Each (IsKnownBlock (target_of f) s) (inst_blocks i)
 froms_known f given s b (Alloca size head rest) h = tt
 froms_known f given s b (Gep base offset head index rest) h = tt
+froms_known f given s b (Step base offset terms head index rest) h = tt
 froms_known f given s b (Load ty ptr rest) h = tt
 froms_known f given s b (Store ty v ptr rest) h = tt
 froms_known f given s b (Copy to from len head behind rest) h = tt

@@ -20,7 +20,7 @@ use Rattle.ms_ir.specs.Uses.{Operand, Use, operands_of, term_operands, uses_at, 
 use Rattle.ms_ir.specs.Sound.{IsUsedBefore, HasTwoValues, HasBadEntries, edges_between, times_in, from_of}
 use Rattle.ms_ir.specs.SoundFunc.{IsValueIn, AreValues, AreBehind, IsAmongPhis, IsSoundInst, IsSoundTerm, IsSoundFunc}
 use Rattle.ms_ir.specs.Edits.{term_at}
-use Rattle.ms_valid.proofs.ListLemmas.{get_map, map_get}
+use Rattle.ms_validity.proofs.ListLemmas.{get_map, map_get}
 use Rattle.ms_edited.proofs.Shape.{PartIsReducible, path_within}
 use Rattle.ms_edited.proofs.OnPaths.{StandsOn, met_stands, stands_met}
 use Rattle.ms_again.specs.Same.{plain_param}

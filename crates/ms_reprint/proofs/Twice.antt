@@ -1,7 +1,6 @@
 -- A function in order is in order.
-use Rattle.std.proofs.Common.{◌≡◌, ◌≤◌, ◌<◌, ◌+◌, ◌==◌, ◌+ℤ◌, ℕ, suc, ℤ, pos, Bool, true, false, cond, if◌then◌else◌, nat_lt, List, [], ◌∷◌, ◌++◌, Option, Some, None, option_map, filter, length, map, refl, sym, ap, ◌∙◌, arith, tests}
+use Rattle.std.proofs.Common.{◌≡◌, ◌≤◌, ◌<◌, ◌+◌, ◌==◌, ℕ, suc, Bool, true, false, if◌then◌else◌, nat_lt, List, [], ◌∷◌, ◌++◌, Option, Some, None, option_map, length, map, refl, sym, ap, ◌∙◌, arith, tests}
 use Rattle.std.specs.List.{flat_map}
-use Rattle.std.proofs.lemmas.Int.{ints}
 use Rattle.std.proofs.lemmas.List.{length-map, map-append}
 use Rattle.ms_ir.specs.declared.names.Name.{Name}
 use Rattle.ms_ir.specs.declared.names.LocalNo.{LocalNo}
@@ -18,10 +17,11 @@ use Rattle.ms_ir.specs.declared.inst.Term.TheVariants.{Br, CondBr, Ret, Unreacha
 use Rattle.ms_ir.specs.Func.{Placed, Block, FuncState}
 use Rattle.ms_grammar.specs.Kept.{Each}
 use Rattle.ms_again.specs.Same.{own_name, plain_param}
-use Rattle.ms_again.specs.Ordered.{added_by, added_in, is_number, is_open, step_of, arg_by, index_by, entry_by, inst_by, term_by, number_in, result_of, results_of, results_in, place_in, local_at, ordered_local, ordered_val, ordered_inst, ordered_insts, ordered_blocks, insts_count, ordered}
+use Rattle.ms_again.specs.Ordered.{joined, arg_by, index_by, entry_by, inst_by, term_by, number_in, result_of, results_of, results_in, place_in, local_at, ordered_local, ordered_val, ordered_inst, ordered_insts, ordered_blocks, insts_count, ordered}
 use Rattle.ms_again.proofs.Carried.{AreAlike}
 use Rattle.ms_again.proofs.InOrder.{IsTold, told}
 use Rattle.ms_again.proofs.Ordered.{own_twice, params_twice, ordered_plain}
+use Rattle.ms_reprint.proofs.Joined.{IsKeeping, ordered_keeps, joined_by}
 
 -- ---- locals
 
@@ -76,7 +76,7 @@ val_twice f (Global g) = refl
 
 -- ---- instructions
 
-module _ (v w : Val → Val) (h : (x : Val) → w (v x) ≡ v x) where
+module _ (v w : Val → Val) (keeps : IsKeeping w) (h : (x : Val) → w (v x) ≡ v x) where
   arg_twice : (a : Arg) → arg_by w (arg_by v a) ≡ arg_by v a
   arg_twice a = ap (λ x. let b : Arg = record a { val = x } in b) (h a.val)
 
@@ -89,50 +89,19 @@ module _ (v w : Val → Val) (h : (x : Val) → w (v x) ≡ v x) where
   entries_twice (e ∷ es) =
       ap (λ x. let d : Entry = record e { val = x } in d ∷ map (entry_by w) (map (entry_by v) es)) (h e.val) ∙ ap (λ (ds : List Entry). entry_by v e ∷ ds) (entries_twice es)
 
-  -- what is open of these terms stays
-  record Stay (ts : List IndexTerm) : Type 0 where
-    pub same : map (index_by w) ts ≡ ts
-    pub open_ones : filter is_open ts ≡ ts
-    pub none : added_in ts ≡ pos 0
-
-  open_adds : (x : Val) (scale : ℕ) → (if is_number x then false else true) ≡ true → added_by x scale ≡ pos 0
-  open_adds (Num ty n) scale e = absurd (cc)
-  open_adds (Local l) scale e = refl
-  open_adds (Global g) scale e = refl
-
-  stay_more : (t : IndexTerm) (ts : List IndexTerm) → is_open (index_by v t) ≡ true → Stay ts → Stay (index_by v t ∷ ts)
-  stay_more t ts e s = record {
-    same = ap (λ x. let i : IndexTerm = record t { val = x } in i ∷ map (index_by w) ts) (h t.val) ∙ ap (λ (us : List IndexTerm). index_by v t ∷ us) s.same;
-    open_ones = ap (λ (b : Bool). cond b (index_by v t ∷ filter is_open ts) (filter is_open ts)) e ∙ ap (λ (us : List IndexTerm). index_by v t ∷ us) s.open_ones;
-    none = ap (λ (z : ℤ). z +ℤ added_in ts) (open_adds (v t.val) t.scale e) ∙ ap (λ (z : ℤ). pos 0 +ℤ z) s.none;
-  }
-
-  stay_if : (t : IndexTerm) (ts : List IndexTerm) (b : Bool) → is_open (index_by v t) ≡ b → Stay ts → Stay (cond b (index_by v t ∷ ts) ts)
-  stay_if t ts true e s = stay_more t ts e s
-  stay_if t ts false e s = s
-
-  stays : (ts : List IndexTerm) → Stay (filter is_open (map (index_by v) ts))
-  stays [] = record { same = refl; open_ones = refl; none = refl }
-  stays (t ∷ ts) = stay_if t (filter is_open (map (index_by v) ts)) (is_open (index_by v t)) refl (stays ts)
-
-  none_added : (o : ℤ) → o +ℤ pos 0 ≡ o
-  none_added o = omega (arith, ints)
-
-  step_twice : (b : Val) (o : ℤ) (ts : List IndexTerm) (head index tail : List ℕ) → w b ≡ b → Stay ts → inst_by w (step_of b o ts head index tail) ≡ step_of b o ts head index tail
-  step_twice b o [] head index tail e s = ap (λ x. Gep x o head index tail) e
-  step_twice b o (t ∷ ts) head index tail e s =
-      let all = t ∷ ts in
-      ap (λ (us : List IndexTerm). step_of (w b) (o +ℤ added_in us) (filter is_open us) head index tail) s.same
-      ∙ ap (λ (us : List IndexTerm). step_of (w b) (o +ℤ added_in all) us head index tail) s.open_ones
-      ∙ ap (λ (z : ℤ). step_of (w b) (o +ℤ z) all head index tail) s.none
-      ∙ ap (λ (z : ℤ). step_of (w b) z all head index tail) (none_added o)
-      ∙ ap (λ x. step_of x o all head index tail) e
+  terms_twice : (ts : List IndexTerm) → map (index_by w) (map (index_by v) ts) ≡ map (index_by v) ts
+  terms_twice [] = refl
+  terms_twice (t ∷ ts) =
+      ap (λ x. let i : IndexTerm = record t { val = x } in i ∷ map (index_by w) (map (index_by v) ts)) (h t.val) ∙ ap (λ (us : List IndexTerm). index_by v t ∷ us) (terms_twice ts)
 
   inst_twice : (i : Inst) → inst_by w (inst_by v i) ≡ inst_by v i
   inst_twice (Alloca size head tail) = refl
   inst_twice (Gep base offset head index tail) = ap (λ x. Gep x offset head index tail) (h base)
   inst_twice (Step base offset terms head index tail) =
-      step_twice (v base) (offset +ℤ added_in (map (index_by v) terms)) (filter is_open (map (index_by v) terms)) head index tail (h base) (stays terms)
+      let news = map (index_by v) terms in
+      joined_by w keeps (v base) offset news head index tail
+      ∙ ap (λ x. joined x offset (map (index_by w) news) head index tail) (h base)
+      ∙ ap (λ (us : List IndexTerm). joined (v base) offset us head index tail) (terms_twice terms)
   inst_twice (Load ty ptr tail) = ap (λ x. Load ty x tail) (h ptr)
   inst_twice (Store ty a ptr tail) = ap (λ x. Store ty x (w (v ptr)) tail) (h a) ∙ ap (λ x. Store ty (v a) x tail) (h ptr)
   inst_twice (Copy to from len head tail) = ap (λ x. Copy x (arg_by w (arg_by v from)) len head tail) (arg_twice to) ∙ ap (λ x. Copy (arg_by v to) x len head tail) (arg_twice from)
@@ -163,7 +132,7 @@ insts_twice f n (x ∷ xs) =
     let i = inst_by (ordered_val (ordered f)) (inst_by (ordered_val f) x.inst) in
     ap (λ r. P r (own_name (own_name x.name)) i ∷ rest) (result_twice f x.result)
     ∙ ap (λ m. P (option_map (ordered_local f) x.result) m i ∷ rest) (own_twice x.name)
-    ∙ ap (λ j. P (option_map (ordered_local f) x.result) (own_name x.name) j ∷ rest) (inst_twice (ordered_val f) (ordered_val (ordered f)) (val_twice f) x.inst)
+    ∙ ap (λ j. P (option_map (ordered_local f) x.result) (own_name x.name) j ∷ rest) (inst_twice (ordered_val f) (ordered_val (ordered f)) (ordered_keeps (ordered f)) (val_twice f) x.inst)
     ∙ ap (λ (ys : List Placed). ordered_inst f n x ∷ ys) (insts_twice f (suc n) xs)
 
 insts_size : (f : FuncState) (n : ℕ) (xs : List Placed) → length (ordered_insts f n xs) ≡ length xs
@@ -180,7 +149,7 @@ blocks_twice f n (b ∷ bs) =
     let rest = ordered_blocks (ordered f) (n + length (ordered_insts f n b.insts)) more in
     ap (λ m. B m xs t ∷ rest) (own_twice b.name)
     ∙ ap (λ (ys : List Placed). B (own_name b.name) ys t ∷ rest) (insts_twice f n b.insts)
-    ∙ ap (λ e. B (own_name b.name) (ordered_insts f n b.insts) e ∷ rest) (term_twice (ordered_val f) (ordered_val (ordered f)) (val_twice f) b.term)
+    ∙ ap (λ e. B (own_name b.name) (ordered_insts f n b.insts) e ∷ rest) (term_twice (ordered_val f) (ordered_val (ordered f)) (ordered_keeps (ordered f)) (val_twice f) b.term)
     ∙ ap (λ (k : ℕ). B (own_name b.name) (ordered_insts f n b.insts) (term_by (ordered_val f) b.term) ∷ ordered_blocks (ordered f) (n + k) more) (insts_size f n b.insts)
     ∙ ap (λ (ys : List Block). B (own_name b.name) (ordered_insts f n b.insts) (term_by (ordered_val f) b.term) ∷ ys) (blocks_twice f (n + length b.insts) bs)
 

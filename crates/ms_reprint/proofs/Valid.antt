@@ -18,9 +18,10 @@ use Rattle.ms_grammar.specs.declared.line.RawInst.{RawInst}
 use Rattle.ms_resolve.specs.Shape.{BlockLines}
 use Rattle.ms_resolve.specs.Used.{values_of, term_values, callee_of, global_of}
 use Rattle.ms_resolve.specs.Faults.{IsIn}
-use Rattle.ms_valid.specs.Faults.{HasInst, HasTerm, CallsOtherwise, ReturnsOtherwise, HasTypeFaultIn, HasEdgeFaultIn, HasOrderFaultIn, given_type}
-use Rattle.ms_valid.specs.Faults as valid
-use Rattle.ms_again.specs.Ordered.{arg_by, step_of, is_open, index_by, added_in, inst_by, given_by, term_by, ordered, ordered_val}
+use Rattle.ms_validity.specs.Faults.{HasInst, HasTerm, CallsOtherwise, ReturnsOtherwise, HasTypeFaultIn, HasEdgeFaultIn, HasOrderFaultIn, given_type}
+use Rattle.ms_validity.specs.Faults as valid
+use Rattle.ms_grammar.specs.Parts.{filled}
+use Rattle.ms_again.specs.Ordered.{arg_by, step_of, kept_term, is_open, index_by, added_in, inst_by, given_by, term_by, ordered, ordered_val}
 use Rattle.ms_again.proofs.Carried.{AreAlike, other_inst, other_block, other_type_alike, entries_alike, uses_alike, term_uses_alike, before_alike}
 use Rattle.ms_again.proofs.NameSound.{inst_globals, term_globals, callee_is}
 use Rattle.ms_again.proofs.ValidSound.{calls_same}
@@ -38,7 +39,7 @@ calls_back : (m : ModuleState) (v : Val → Val) (i : Inst) → CallsOtherwise m
 calls_back m v (Call callee ret args effects head tail) h =
     (h.0, h.1, ⊎_elim (λ (r : ret ≢ h.0.ret). inl r) (λ (w : valid.ArgsFit h.0 (map (arg_by v) args) → ⊥). inr (λ fits. w (fits_back h.0 v args fits))) h.2)
 calls_back m v (Step base offset terms head index tail) h =
-    step_calls m (v base) (offset +ℤ added_in (map (index_by v) terms)) (filter is_open (map (index_by v) terms)) head index tail h
+    step_calls m (v base) (offset +ℤ added_in (map (index_by v) terms)) (filter is_open (map (index_by v) terms)) head (filled (map kept_term (map (index_by v) terms)) index) tail h
 calls_back m v (Alloca size head tail) h = h
 calls_back m v (Gep base offset head index tail) h = h
 calls_back m v (Load ty ptr tail) h = h

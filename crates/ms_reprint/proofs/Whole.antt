@@ -19,9 +19,9 @@ use Rattle.ms_resolve.specs.Module.{func_names_in, global_names_in, names_of, si
 use Rattle.ms_resolve.specs.Faults.{IsIn, symbols_of, name_of_symbol, HasFaultIn, HasNameFault}
 use Rattle.ms_resolve.specs.Faults as named
 use Rattle.ms_resolve.specs.Cause.{NoNameFault}
-use Rattle.ms_valid.specs.Cause.{HasNone}
-use Rattle.ms_valid.specs.Faults.{IsBody, HasTypeFaultIn, HasEdgeFaultIn, HasOrderFaultIn, HasTypeFault, HasEdgeFault, HasOrderFault}
-use Rattle.ms_valid.proofs.ListLemmas.{in_nil, get_left, get_right, map_get, in_there, in_cons}
+use Rattle.ms_validity.specs.Cause.{HasNone}
+use Rattle.ms_validity.specs.Faults.{IsBody, HasTypeFaultIn, HasEdgeFaultIn, HasOrderFaultIn, HasTypeFault, HasEdgeFault, HasOrderFault}
+use Rattle.ms_validity.proofs.ListLemmas.{in_nil, get_left, get_right, map_get, in_there, in_cons}
 use Rattle.ms_again.specs.Same.{own_name, plain_inst, plain_block, plain_func}
 use Rattle.ms_again.specs.Ordered.{term_by, ordered_val, ordered_inst, ordered, ordered_insts, ordered_blocks, IsSameInOrder}
 use Rattle.ms_again.proofs.Carried.{AreAlike}

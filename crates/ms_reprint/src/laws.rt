@@ -14,7 +14,7 @@ ghost use Rattle.ms_read.specs.declared.place.Place.{Place};
 ghost use Rattle.ms_read.specs.declared.place.Place.TheVariants.{Outside};
 ghost use Rattle.ms_read.specs.declared.fault.ReadFault.TheVariants.{Limit};
 ghost use Rattle.ms_print.specs.Text.{module_text};
-ghost use Rattle.ms_accepted.specs.Module.{IsAcceptedModule};
+ghost use Rattle.ms_valid.specs.Module.{IsAcceptedModule};
 ghost use Rattle.ms_again.specs.Again.{IsReadInOrder};
 ghost use Rattle.ms_again.specs.Ordered.{ordered};
 ghost use Rattle.ms_reprint.specs.Rows.{AreSaid};
@@ -40,4 +40,5 @@ pub fn read_again()
         length (module_text m) < 10 ^ 9 → ((n : ℕ) → IsModuleCause (module_text m) (Limit n) → ⊥) → IsReadInOrder m }
 {
     ms_paths::laws::part_form();
+    ms_reread::laws::said_with_numbers();
 }

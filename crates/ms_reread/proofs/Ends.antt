@@ -11,9 +11,9 @@ use Rattle.ms_lex.specs.declared.token.TokenKind.{TokenKind}
 use Rattle.ms_lex.specs.declared.token.TokenKind.TheVariants.{Word, Local, Global, Number, Quoted, Group, Meta, Punct}
 use Rattle.ms_lex.proofs.First.{first_tells}
 
--- a blank or one of , : ( )
+-- a separator or one of , : ( )
 abbrev pub calm : ℕ → Bool
-calm c = c == 32 || (c == 44 || (c == 58 || (c == 40 || c == 41)))
+calm c = c == 32 || (c == 9 || (c == 13 || (c == 44 || (c == 58 || (c == 40 || c == 41)))))
 
 -- nothing, or bytes of which the first lengthens no token but a string
 abbrev pub Calm : List ℕ → Type 0

@@ -1,11 +1,16 @@
+pub mod Cells
 pub mod Classes
+pub mod Counted
 pub mod Ends
+pub mod Filling
 pub mod Heads
 pub mod Joined
 pub mod Lines
 pub mod Moves
 pub mod Pieces
 pub mod Places
+pub mod Renewed
 pub mod Reread
+pub mod Summed
 pub mod Tokens
 pub mod Values

@@ -4,14 +4,14 @@ use Rattle.ms_ir.specs.declared.names.Ty.TheVariants.{I1, I64, Ptr}
 use Rattle.ms_ir.specs.declared.names.Name.{Name}
 use Rattle.ms_ir.specs.declared.names.Name.TheVariants as name
 use Rattle.ms_grammar.specs.Parts.{Part, apart, post, object, gep_head, indices, call_head, copy_head, kept_line, group_line, global_line}
-use Rattle.ms_grammar.specs.Form.{Scale, form, word_part, brace_parts, front_parts, listed, arg_parts, entry_parts, param_parts, dots_parts, end_parts, target_parts, inst_parts, term_parts, result_parts}
+use Rattle.ms_grammar.specs.Form.{Scale, form, word_part, brace_parts, front_parts, listed, arg_parts, entry_parts, param_parts, dots_parts, end_parts, index_text, target_parts, inst_parts, term_parts, result_parts}
 use Rattle.ms_grammar.specs.Fits.{IsNamed, FitsInst, FitsTerm, FitsHead, FitsLine, IsMade}
 use Rattle.ms_grammar.specs.Grammar.{kept_of, without_name}
 use Rattle.ms_grammar.specs.declared.line.Head.{Head}
 use Rattle.ms_grammar.specs.declared.line.Line.{Line}
 use Rattle.ms_grammar.specs.declared.line.Line.TheVariants as said
 use Rattle.ms_grammar.specs.declared.line.RawInst.{RawInst}
-use Rattle.ms_grammar.specs.declared.line.RawInst.TheVariants.{Alloca, Gep, Load, Store, Copy, Call, Bin, Cmp, Select, Cast, Phi}
+use Rattle.ms_grammar.specs.declared.line.RawInst.TheVariants.{Alloca, Gep, Step, Load, Store, Copy, Call, Bin, Cmp, Select, Cast, Phi}
 use Rattle.ms_grammar.specs.declared.line.RawTerm.{RawTerm}
 use Rattle.ms_grammar.specs.declared.line.RawTerm.TheVariants.{Br, CondBr, Ret, Unreachable}
 use Rattle.ms_grammar.specs.declared.keyword.Keyword.{Keyword}
@@ -19,6 +19,7 @@ use Rattle.ms_grammar.specs.declared.keyword.Keyword.TheVariants as word
 use Rattle.ms_reread.proofs.Pieces.{Back, Next, behind, next_behind, nothing, blank_next, token_back, token_then, mark_next, flag_next}
 use Rattle.ms_reread.proofs.Classes.{kept_back, attributes_next, post_next, tail_next}
 use Rattle.ms_reread.proofs.Tokens.{word_whole, type_whole, op_whole, predicate_whole, cast_whole, result_whole, global_whole, global_name_whole, label_whole, colon_calm, open_calm, close_calm}
+use Rattle.ms_reread.proofs.Renewed.{terms_whole, woven_back}
 use Rattle.ms_reread.proofs.Values.{EachBack, count_back, value_then, typed_then, local_then, comma_next, arg_then, listed_back, each_arg, each_entry, each_param, each_bare}
 
 -- what is kept behind the arguments of a call
@@ -32,6 +33,11 @@ inst_back scale (Gep base offset head index rest) h =
     token_then (word_whole word.Getelementptr)
     (blank_next (behind (kept_back (gep_head scale.sizes) head)
     (comma_next (typed_then Ptr base h.0 (comma_next (behind (kept_back (indices scale.indices) index) (tail_next rest)))))))
+inst_back scale (Step base offset terms head index rest) h =
+    token_then (word_whole word.Getelementptr)
+    (blank_next (behind (kept_back (gep_head scale.sizes) head)
+    (comma_next (typed_then Ptr base h.0
+    (comma_next (behind (woven_back scale.items (map index_text terms) index (terms_whole scale.sizes scale.items terms h.2)) (tail_next rest)))))))
 inst_back scale (Load ty ptr rest) h =
     token_then (word_whole word.Load) (blank_next (token_then (type_whole ty) (comma_next (typed_then Ptr ptr h.1 (tail_next rest)))))
 inst_back scale (Store ty val ptr rest) h =

@@ -31,7 +31,7 @@ ends_by kind [] rest token calm = absurd (false≢true (sym (some_bytes kind) �
 ends_by kind (b ∷ s) rest token calm = ends_calm kind b s rest token calm
 
 -- a token of the old line ends before the next byte of it
-ends_old : (old : List ℕ) (from to end : ℕ) (kind : TokenKind) (rest : List ℕ) → NoLonger old from to → from < to → to < end → end ≤ length old →
+pub ends_old : (old : List ℕ) (from to end : ℕ) (kind : TokenKind) (rest : List ℕ) → NoLonger old from to → from < to → to < end → end ≤ length old →
     Ends kind (slice_range old from to) (slice_range old to end ++ rest)
 ends_old old from to end kind rest longest some more within =
     let here : to < length old = omega arith in

@@ -11,7 +11,7 @@ use Rattle.ms_grammar.specs.Grammar.{Says, kept_of, without_name}
 use Rattle.ms_grammar.specs.declared.line.Line.{Line}
 use Rattle.ms_grammar.specs.declared.line.Line.TheVariants as said
 use Rattle.ms_grammar.specs.declared.line.RawInst.{RawInst}
-use Rattle.ms_grammar.specs.declared.line.RawInst.TheVariants.{Gep}
+use Rattle.ms_grammar.specs.declared.line.RawInst.TheVariants.{Gep, Step}
 use Rattle.ms_grammar.proofs.Printing.{text_of_append}
 use Rattle.ms_reread.proofs.Places.{Stands, follow_map, whole_tokens}
 use Rattle.ms_reread.proofs.Moves.{Old}
@@ -21,6 +21,7 @@ use Rattle.ms_reread.proofs.Lines.{line_back}
 -- the printed form needs no sizes and no indices
 inst_text : (s t : Scale) (i : RawInst) → text_of (inst_parts s i) ≡ text_of (inst_parts t i)
 inst_text s t (Gep base offset head index rest) = refl
+inst_text s t (Step base offset terms head index rest) = refl
 inst_text s t i = refl
 
 line_text : (s t : Scale) (l : Line) → text_of (form s l) ≡ text_of (form t l)
@@ -45,7 +46,7 @@ fits_kept scale (said.Define head) h = h
 fits_kept scale (said.Inst n inst) h = h
 fits_kept scale (said.Term term) h = h
 
-old_line : (bytes : List ℕ) (w : Line) (says : Says bytes w) → Old bytes says.tokens
+pub old_line : (bytes : List ℕ) (w : Line) (says : Says bytes w) → Old bytes says.tokens
 old_line bytes w says = record {
   from = 0;
   follow = follow_map bytes (EndsAfter bytes) (λ place. Unit {0}) 0 says.tokens (λ place end. tt) says.are_tokens;

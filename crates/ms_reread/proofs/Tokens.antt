@@ -191,9 +191,14 @@ word_no_digits [] w d = false≢true w
 word_no_digits (b ∷ bs) w d =
     both_ways _ (digit_no_word b (and_parts (is_ascii_digit b) _ d).0) (and_parts (starts_word b) _ w).0
 
+pub local_token : (n : Name) → IsNamed n → is_token kind.Local (37 ∷ name_text n) ≡ true
+local_token (name.Word text) h = or_left _ _ h
+local_token (name.Number n) h = or_right _ _ (decimal_digits n (omega arith))
+local_token name.Absent h = absurd h
+
 pub local_whole : (n : Name) → IsNamed n → IsWhole (37 ∷ name_text n)
-local_whole (name.Word text) h = record { kind = kind.Local; is = or_left _ _ h; readable = λ digits. absurd (word_no_digits text h digits) }
-local_whole (name.Number n) h = record { kind = kind.Local; is = or_right _ _ (decimal_digits n (omega arith)); readable = decimal_plain n h }
+local_whole (name.Word text) h = record { kind = kind.Local; is = local_token (name.Word text) h; readable = λ digits. absurd (word_no_digits text h digits) }
+local_whole (name.Number n) h = record { kind = kind.Local; is = local_token (name.Number n) h; readable = decimal_plain n h }
 local_whole name.Absent h = absurd h
 
 pub global_whole : (text : List ℕ) → is_word text ≡ true → IsWhole (64 ∷ text)
@@ -234,7 +239,7 @@ pub record NumberAgain (ty : Ty) (n : ℕ) : Type 0 where
   pub whole : IsWhole (number_text ty n)
   pub means : Means ty n (number_text ty n)
 
-record SignedAgain (m n : ℕ) (s : List ℕ) : Type 0 where
+pub record SignedAgain (m n : ℕ) (s : List ℕ) : Type 0 where
   pub whole : IsWhole s
   pub is_number : is_number s ≡ true
   pub value : modulo m s ≡ Some n
@@ -271,7 +276,7 @@ signed_by : (m n : ℕ) (t : Bool) → nat_lt n (2 ^ (m - 1)) ≡ t → n < 2 ^ 
 signed_by m n true t below small half = signed_plain m n below small
 signed_by m n false t below small half = signed_minus m n below small (grind (arith, nat_tests)) half
 
-signed_again : (m n : ℕ) → n < 2 ^ m → 2 ^ m ≤ 2 ^ 64 → 2 ^ m ≡ 2 ^ (m - 1) + 2 ^ (m - 1) → SignedAgain m n (signed_text m n)
+pub signed_again : (m n : ℕ) → n < 2 ^ m → 2 ^ m ≤ 2 ^ 64 → 2 ^ m ≡ 2 ^ (m - 1) + 2 ^ (m - 1) → SignedAgain m n (signed_text m n)
 signed_again m n below small half = signed_by m n (nat_lt n (2 ^ (m - 1))) refl below small half
 
 truth_again : (n : ℕ) → n < 2 → NumberAgain I1 n
@@ -293,7 +298,7 @@ means_below ty n s (numeral is value) = modulo_below (bits ty) s n (by_type ty) 
 means_below ty n s (yes bit one is) = rw (bit, one) (omega arith)
 means_below ty n s (no bit one is) = rw (bit, one) (omega arith)
 
-number_by : (ty : Ty) (n : ℕ) → IsInt ty → n < 2 ^ bits ty → NumberAgain ty n
+pub number_by : (ty : Ty) (n : ℕ) → IsInt ty → n < 2 ^ bits ty → NumberAgain ty n
 number_by I1 n some below = truth_again n below
 number_by I8 n some below = let again = signed_again 8 n below (omega arith) refl in record { whole = again.whole; means = numeral again.is_number again.value }
 number_by I16 n some below = let again = signed_again 16 n below (omega arith) refl in record { whole = again.whole; means = numeral again.is_number again.value }

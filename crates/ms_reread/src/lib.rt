@@ -1,7 +1,8 @@
 //! What is printed for a line says the same again.
 //!
-//! The one law of this crate, [`laws::said_again`], ties the two halves of the grammar together: whatever
-//! a line says, its printed form says what is kept of it.
+//! The laws of this crate tie the two halves of the grammar together. Whatever a line says, its printed form says what
+//! is kept of it ([`laws::said_again`]); and where numbers came into the places of locals among the indices of a
+//! getelementptr, its printed form says it with the numbers summed up ([`laws::said_with_numbers`]).
 #![tactic(auto)]
 
 pub mod laws;

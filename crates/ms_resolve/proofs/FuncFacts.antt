@@ -11,7 +11,7 @@ use Rattle.ms_ir.specs.Func.{Placed, Block, FuncState, no_block, with_insts, put
 use Rattle.ms_grammar.specs.declared.line.Line.{Line}
 use Rattle.ms_grammar.specs.declared.line.Line.TheVariants as said
 use Rattle.ms_grammar.specs.declared.line.RawInst.{RawInst}
-use Rattle.ms_grammar.specs.declared.line.RawInst.TheVariants.{Alloca, Gep, Load, Store, Copy, Call, Bin, Cmp, Select, Cast, Phi}
+use Rattle.ms_grammar.specs.declared.line.RawInst.TheVariants.{Alloca, Gep, Step, Load, Store, Copy, Call, Bin, Cmp, Select, Cast, Phi}
 use Rattle.ms_names.specs.Shape.{LabelLine, InstLine, BlockLines, FuncLines, inst_line, label_lines, block_lines}
 use Rattle.ms_names.specs.Made.{makes}
 use Rattle.ms_resolve.specs.Scope.{Scope, inst_of, term_of, placed_at, local_behind, insts_from, locals_behind, blocks_from, all_made, all_locals, params_from, func_of}
@@ -71,6 +71,7 @@ shells_blocks s h (x ∷ xs) done b e =
 makes_result : (s : Scope) (i : RawInst) → has_result (inst_of s i) ≡ makes i
 makes_result s (Alloca size head rest) = refl
 makes_result s (Gep base offset head index rest) = refl
+makes_result s (Step base offset terms head index rest) = refl
 makes_result s (Load ty ptr rest) = refl
 makes_result s (Store ty v ptr rest) = refl
 makes_result s (Copy to from len head behind rest) = refl

@@ -11,6 +11,7 @@ use Rattle.ms_ir.specs.declared.inst.Val.{Val}
 use Rattle.ms_ir.specs.declared.inst.Val.TheVariants as val
 use Rattle.ms_ir.specs.declared.inst.Arg.{Arg}
 use Rattle.ms_ir.specs.declared.inst.Entry.{Entry}
+use Rattle.ms_ir.specs.declared.inst.IndexTerm.{IndexTerm}
 use Rattle.ms_ir.specs.declared.inst.Effects.{Effects}
 use Rattle.ms_ir.specs.declared.inst.Inst.{Inst}
 use Rattle.ms_ir.specs.declared.inst.Inst.TheVariants as inst
@@ -29,8 +30,9 @@ use Rattle.ms_grammar.specs.declared.line.RawVal.{RawVal}
 use Rattle.ms_grammar.specs.declared.line.RawVal.TheVariants as raw
 use Rattle.ms_grammar.specs.declared.line.RawArg.{RawArg}
 use Rattle.ms_grammar.specs.declared.line.RawEntry.{RawEntry}
+use Rattle.ms_grammar.specs.declared.line.RawIndex.{RawIndex}
 use Rattle.ms_grammar.specs.declared.line.RawInst.{RawInst}
-use Rattle.ms_grammar.specs.declared.line.RawInst.TheVariants.{Alloca, Gep, Load, Store, Copy, Call, Bin, Cmp, Select, Cast, Phi}
+use Rattle.ms_grammar.specs.declared.line.RawInst.TheVariants.{Alloca, Gep, Step, Load, Store, Copy, Call, Bin, Cmp, Select, Cast, Phi}
 use Rattle.ms_grammar.specs.declared.line.RawTerm.{RawTerm}
 use Rattle.ms_grammar.specs.declared.line.RawTerm.TheVariants.{Br, CondBr, Ret, Unreachable}
 use Rattle.ms_names.specs.Shape.{InstLine, BlockLines, FuncLines}
@@ -93,6 +95,9 @@ args_of s marks (a ∷ more) = arg_of s (keeps_at marks) a ∷ args_of s (behind
 abbrev pub entry_of : Scope → RawEntry → Entry
 entry_of s e = record { val = value_of s e.val; from = block_of s e.from }
 
+abbrev pub index_of : Scope → RawIndex → IndexTerm
+index_of s t = record { val = value_of s t.val; ty = t.ty; scale = t.scale }
+
 abbrev pub marks_of : Option Sig → List Mark
 marks_of None = []
 marks_of (Some sig) = sig.params
@@ -108,6 +113,7 @@ sig_of s f = slice_get s.sigs f
 abbrev pub inst_of : Scope → RawInst → Inst
 inst_of s (Alloca size head rest) = inst.Alloca size head rest
 inst_of s (Gep base offset head index rest) = inst.Gep (value_of s base) offset head index rest
+inst_of s (Step base offset terms head index rest) = inst.Step (value_of s base) offset (map (index_of s) terms) head index rest
 inst_of s (Load ty ptr rest) = inst.Load ty (value_of s ptr) rest
 inst_of s (Store ty v ptr rest) = inst.Store ty (value_of s v) (value_of s ptr) rest
 inst_of s (Copy to from len head behind rest) = inst.Copy (arg_of s false to) (arg_of s false from) len head (behind_blank behind ++ rest)

@@ -6,15 +6,16 @@ ghost use Rattle.ms_attrs.specs.Memory.{everything};
 ghost use Rattle.ms_grammar.specs.Parts.{behind_blank};
 ghost use Rattle.ms_grammar.specs.Form.{name_text};
 ghost use Rattle.ms_resolve.specs.Meaning.{keeps_in};
-ghost use Rattle.ms_resolve.specs.Scope.{or_first, value_of, block_of, is_pointer, arg_of, args_of, entry_of, keeps_at, marks_of, sig_of, effects_of_sig, number_of_word, inst_of, given_of, term_of, params_from};
+ghost use Rattle.ms_resolve.specs.Scope.{or_first, value_of, block_of, is_pointer, arg_of, args_of, entry_of, index_of, keeps_at, marks_of, sig_of, effects_of_sig, number_of_word, inst_of, given_of, term_of, params_from};
 ghost use Rattle.ms_resolve.specs.Reader.{scope_by};
 ghost use Rattle.ms_resolve.specs.Build.{result_name};
 
 use crate::meaning::{effects_of, keeps_of};
-use ms_grammar::{RawArg, RawEntry, RawInst, RawTerm, RawVal};
+use ms_grammar::{RawArg, RawEntry, RawIndex, RawInst, RawTerm, RawVal};
 use ms_ir::{
-    Arg, Args, BlockNo, CastOp, Effects, Entries, Entry, Flags, FuncNo, GlobalNo, Groups, Inst,
-    Items, LocalNo, Mark, Name, NoMemory, Op, Param, Params, Pred, Sig, Term, Text, Ty, Val,
+    Arg, Args, BlockNo, CastOp, Effects, Entries, Entry, Flags, FuncNo, GlobalNo, Groups,
+    IndexTerm, Inst, Items, LocalNo, Mark, Name, NoMemory, Op, Param, Params, Pred, Sig, Term,
+    Terms, Text, Ty, Val,
 };
 use ms_names::{Register, Symbols, makes, symbol_place};
 use std::alloc::Global;
@@ -201,6 +202,26 @@ impl<'s, 'a> Reader<'s, 'a> {
         Ok(all)
     }
 
+    fn index(&self, term: &RawIndex) -> Result<IndexTerm, NoMemory>
+        ensures { IfOk result (λ t. t ≡ index_of (scope_by self.now) term.now) }
+    {
+        Ok(IndexTerm {
+            val: self.value(&term.val)?,
+            ty: term.ty,
+            scale: term.scale,
+        })
+    }
+
+    fn terms(&self, terms: &[RawIndex]) -> Result<Terms, NoMemory>
+        ensures { IfOk result (λ r. r ≡ map (index_of (scope_by self.now)) terms.now) }
+    {
+        let mut all = Terms::new(self.alloc);
+        for term in terms {
+            all.push(self.index(term)?)?;
+        }
+        Ok(all)
+    }
+
     // What the line of a function says of its parameters.
     fn marks_at(&self, f: u32) -> &[Mark]
         ensures { result.now ≡ marks_of (sig_of (scope_by self.now) f) }
@@ -251,6 +272,27 @@ impl<'s, 'a> Reader<'s, 'a> {
         Ok(Inst::Gep {
             base: self.value(base)?,
             offset,
+            head: copy(self.alloc, head)?,
+            index: copy(self.alloc, index)?,
+            tail: copy(self.alloc, tail)?,
+        })
+    }
+
+    fn step(
+        &self,
+        base: &RawVal,
+        offset: i64,
+        terms: &[RawIndex],
+        head: &Text,
+        index: &Text,
+        tail: &Text,
+    ) -> Result<Inst, NoMemory>
+        ensures { IfOk result (λ i. i ≡ Inst.Step (value_of (scope_by self.now) base.now) offset (map (index_of (scope_by self.now)) terms.now) head.now index.now tail.now) }
+    {
+        Ok(Inst::Step {
+            base: self.value(base)?,
+            offset,
+            terms: self.terms(terms)?,
             head: copy(self.alloc, head)?,
             index: copy(self.alloc, index)?,
             tail: copy(self.alloc, tail)?,
@@ -449,6 +491,14 @@ impl<'s, 'a> Reader<'s, 'a> {
                 index,
                 tail,
             } => self.gep(base, *offset, head, index, tail),
+            RawInst::Step {
+                base,
+                offset,
+                terms,
+                head,
+                index,
+                tail,
+            } => self.step(base, *offset, terms.as_slice(), head, index, tail),
             RawInst::Load { ty, ptr, tail } => self.load(*ty, ptr, tail),
             RawInst::Store { ty, val, ptr, tail } => self.store(*ty, val, ptr, tail),
             RawInst::Copy {

@@ -2,6 +2,8 @@ pub mod EachLemmas
 pub mod Fronts
 pub mod Insertion
 pub mod LineLemmas
+pub mod OneEdit
+pub mod OneScript
 pub mod PastLines
 pub mod ScopeLemmas
 pub mod ScriptRead

@@ -42,7 +42,7 @@ by_first verb.Move verb.Move e = refl
 by_first verb.Unlink verb.Unlink e = refl
 by_first v w e = absurd (omega (arith, e))
 
-one_verb : (v w : Verb) → verb_text v ≡ verb_text w → v ≡ w
+pub one_verb : (v w : Verb) → verb_text v ≡ verb_text w → v ≡ w
 one_verb v w e = by_first v w (sym (first_is v) ∙ ap (λ t. get_or t 0 0) e ∙ first_is w)
 
 -- what is inserted behind a block and a number, and what is not

@@ -8,7 +8,7 @@ use Rattle.ms_ir.specs.declared.module.Sig.{Sig}
 use Rattle.ms_ir.specs.Module.{ModuleState}
 use Rattle.ms_grammar.specs.declared.line.RawArg.{RawArg}
 use Rattle.ms_grammar.specs.declared.line.RawInst.{RawInst}
-use Rattle.ms_grammar.specs.declared.line.RawInst.TheVariants.{Call}
+use Rattle.ms_grammar.specs.declared.line.RawInst.TheVariants.{Alloca, Gep, Step, Load, Store, Copy, Call, Bin, Cmp, Select, Cast, Phi}
 
 abbrev pub type_of_raw : RawArg → Ty
 type_of_raw a = a.ty
@@ -39,4 +39,14 @@ pub record IsCallIn (m : ModuleState) (callee : Name) (ret : Option Ty) (args : 
 -- what an instruction calls is called as it is there; a memcpy is no such call
 abbrev pub CallsAsThere : ModuleState → RawInst → Type 0
 CallsAsThere m (Call callee ret args head post tail) = IsCallIn m callee ret args
-CallsAsThere m _ = Unit {0}
+CallsAsThere m (Alloca size head tail) = Unit {0}
+CallsAsThere m (Gep base offset head index tail) = Unit {0}
+CallsAsThere m (Step base offset terms head index tail) = Unit {0}
+CallsAsThere m (Load ty ptr tail) = Unit {0}
+CallsAsThere m (Store ty val ptr tail) = Unit {0}
+CallsAsThere m (Copy to from len head post tail) = Unit {0}
+CallsAsThere m (Bin op flags ty a b tail) = Unit {0}
+CallsAsThere m (Cmp pred flags ty a b tail) = Unit {0}
+CallsAsThere m (Select cond ty a b tail) = Unit {0}
+CallsAsThere m (Cast op flags from a to tail) = Unit {0}
+CallsAsThere m (Phi ty entries tail) = Unit {0}

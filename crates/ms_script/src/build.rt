@@ -5,14 +5,14 @@ ghost use Rattle.ms_attrs.specs.Memory.{everything};
 ghost use Rattle.ms_grammar.specs.Parts.{behind_blank};
 ghost use Rattle.ms_grammar.specs.Form.{name_text};
 ghost use Rattle.ms_resolve.specs.Meaning.{keeps_in};
-ghost use Rattle.ms_resolve.specs.Scope.{value_of, block_of, is_pointer, arg_of, args_of, entry_of, keeps_at, marks_of, sig_of, effects_of_sig, number_of_word, inst_of};
+ghost use Rattle.ms_resolve.specs.Scope.{value_of, block_of, is_pointer, arg_of, args_of, entry_of, index_of, keeps_at, marks_of, sig_of, effects_of_sig, number_of_word, inst_of};
 ghost use Rattle.ms_script.specs.Names.{scope_of};
 
 use crate::lookup::{Lookup, copy, effects_of, ends, func_named, keeps_of};
-use ms_grammar::{RawArg, RawEntry, RawInst, RawVal};
+use ms_grammar::{RawArg, RawEntry, RawIndex, RawInst, RawVal};
 use ms_ir::{
-    Arg, Args, CastOp, Effects, Entries, Entry, Flags, FuncNo, Inst, Mark, Name, NoMemory, Op,
-    Pred, Text, Ty,
+    Arg, Args, CastOp, Effects, Entries, Entry, Flags, FuncNo, IndexTerm, Inst, Mark, Name,
+    NoMemory, Op, Pred, Terms, Text, Ty,
 };
 use std::alloc::Global;
 
@@ -106,6 +106,26 @@ impl<'a> Lookup<'a> {
         Ok(all)
     }
 
+    fn index(&self, index: &RawIndex) -> IndexTerm
+        ensures { result ≡ index_of (scope_of self.now.m.now self.now.func.now) index.now }
+    {
+        IndexTerm {
+            val: self.value(&index.val),
+            ty: index.ty,
+            scale: index.scale,
+        }
+    }
+
+    fn terms(&self, terms: &[RawIndex]) -> Result<Terms, NoMemory>
+        ensures { IfOk result (λ r. r ≡ map (index_of (scope_of self.now.m.now self.now.func.now)) terms.now) }
+    {
+        let mut all = Terms::new(self.alloc);
+        for term in terms {
+            all.push(self.index(term))?;
+        }
+        Ok(all)
+    }
+
     // What the line of a function says of its parameters.
     fn marks_at(&self, f: u32) -> &[Mark]
         ensures { result.now ≡ marks_of (sig_of (scope_of self.now.m.now self.now.func.now) f) }
@@ -153,6 +173,27 @@ impl<'a> Lookup<'a> {
             head: copy(self.alloc, head)?,
             index: copy(self.alloc, index)?,
             tail: copy(self.alloc, tail)?,
+        })
+    }
+
+    fn step(
+        &self,
+        base: &RawVal,
+        offset: i64,
+        terms: &[RawIndex],
+        head: &Text,
+        index: &Text,
+        tail: &Text,
+    ) -> Result<Inst, NoMemory>
+        ensures { IfOk result (λ i. i ≡ Inst.Step (value_of (scope_of self.now.m.now self.now.func.now) base.now) offset (map (index_of (scope_of self.now.m.now self.now.func.now)) terms.now) head.now index.now tail.now) }
+    {
+        Ok(Inst::Step {
+            base: self.value(base),
+            offset,
+            head: copy(self.alloc, head)?,
+            index: copy(self.alloc, index)?,
+            tail: copy(self.alloc, tail)?,
+            terms: self.terms(terms)?,
         })
     }
 
@@ -348,6 +389,14 @@ impl<'a> Lookup<'a> {
                 index,
                 tail,
             } => self.gep(base, *offset, head, index, tail),
+            RawInst::Step {
+                base,
+                offset,
+                terms,
+                head,
+                index,
+                tail,
+            } => self.step(base, *offset, terms.as_slice(), head, index, tail),
             RawInst::Load { ty, ptr, tail } => self.load(*ty, ptr, tail),
             RawInst::Store { ty, val, ptr, tail } => self.store(*ty, val, ptr, tail),
             RawInst::Copy {

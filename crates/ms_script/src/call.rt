@@ -97,6 +97,16 @@ pub fn calls_as_there(m: &Module, inst: &RawInst) -> bool
             args,
             ..
         } => is_call_in(m, callee, *ret, args),
-        _ => true,
+        RawInst::Alloca { .. }
+        | RawInst::Gep { .. }
+        | RawInst::Step { .. }
+        | RawInst::Load { .. }
+        | RawInst::Store { .. }
+        | RawInst::Copy { .. }
+        | RawInst::Bin { .. }
+        | RawInst::Cmp { .. }
+        | RawInst::Select { .. }
+        | RawInst::Cast { .. }
+        | RawInst::Phi { .. } => true,
     }
 }

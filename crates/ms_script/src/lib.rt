@@ -20,6 +20,7 @@ mod edit;
 mod fault;
 mod front;
 mod inserted;
+pub mod laws;
 mod line;
 mod lookup;
 mod past;

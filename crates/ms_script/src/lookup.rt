@@ -7,11 +7,11 @@ ghost use Rattle.ms_resolve.specs.Scope.{value_of, block_of, number_of_word, num
 ghost use Rattle.ms_resolve.specs.Meaning.{effects_in, keeps_in};
 ghost use Rattle.ms_ir.specs.Edits.{IsNameTaken};
 ghost use Rattle.ms_grammar.specs.Kept.{Each};
-ghost use Rattle.ms_resolve.specs.Used.{arg_value};
+ghost use Rattle.ms_resolve.specs.Used.{arg_value, index_value};
 ghost use Rattle.ms_script.specs.Names.{scope_of, KnowsBlock, KnowsLocal, KnowsValue, KnowsEntry, KnowsEntries, KnowsInst};
 
 use itoa::Buffer;
-use ms_grammar::{RawArg, RawEntry, RawInst, RawVal, effects_by, keeps_by};
+use ms_grammar::{RawArg, RawEntry, RawIndex, RawInst, RawVal, effects_by, keeps_by};
 use ms_ir::{
     BlockNo, Effects, Func, FuncNo, GlobalNo, Groups, LocalNo, Module, Name, NoMemory, Text, Val,
 };
@@ -229,6 +229,17 @@ impl<'a> Lookup<'a> {
         true
     }
 
+    fn knows_terms(&self, terms: &[RawIndex]) -> bool
+        ensures { IsTrue result ↔ Each (KnowsValue self.now.m.now self.now.func.now) (map index_value terms.now) }
+    {
+        for term in terms {
+            if !self.knows_value(&term.val) {
+                return false;
+            }
+        }
+        true
+    }
+
     fn knows_entry(&self, entry: &RawEntry) -> bool
         ensures { IsTrue result ↔ KnowsEntry self.now.m.now self.now.func.now entry.now }
     {
@@ -253,6 +264,9 @@ impl<'a> Lookup<'a> {
         match inst {
             RawInst::Alloca { .. } => true,
             RawInst::Gep { base, .. } => self.knows_value(base),
+            RawInst::Step { base, terms, .. } => {
+                self.knows_value(base) && self.knows_terms(terms.as_slice())
+            }
             RawInst::Load { ptr, .. } => self.knows_value(ptr),
             RawInst::Store { val, ptr, .. } => self.knows_value(val) && self.knows_value(ptr),
             RawInst::Copy { to, from, .. } => {

@@ -206,3 +206,45 @@ fn two_entries(rt: HostRuntime) {
     };
     check(&rt, rt.alloc(), &[&[1, 2], &[2, 3], &[1, 3], &[]], &want);
 }
+
+// Cuts an edge of a graph, and expects how many are left and where those to a block stood.
+fn cut(
+    rt: &impl Abort,
+    alloc: Global,
+    shape: &[&[u32]],
+    edge: (u32, u32),
+    left: u64,
+    to: u32,
+    stood: &[(u32, u32, u32)],
+) {
+    let func = function(rt, alloc, shape);
+    let mut flow = flow_of(rt, alloc, &func);
+    let mut steps = Steps::new(alloc).ok().expect(rt, "memory");
+    let (b, slot) = edge;
+    assert!(rt; b < flow.block_count());
+    assert_eq!(rt; flow.succ_count(BlockNo(b)), 2);
+    assert!(rt; slot < 2);
+    flow.drop_edge(BlockNo(b), slot, &mut steps);
+    assert_eq!(rt; steps.count(), left);
+    assert_eq!(rt; flow.succ_count(BlockNo(b)), 1);
+    assert!(rt; to < flow.block_count());
+    assert!(rt; flow.reached(BlockNo(to)));
+    assert_eq!(rt; flow.pred_count(BlockNo(to)) as usize, stood.len());
+    for k in 0..flow.pred_count(BlockNo(to)) {
+        let edge = flow.pred(BlockNo(to), k, &mut steps);
+        let before = flow.slot_before(BlockNo(to), k);
+        assert!(rt; (edge.from.0, edge.out_slot, before) == stood[k as usize]);
+    }
+}
+
+// The edges to a block that are left, each with its place before: a block with two edges to it loses one; a loop its way back; and in a
+// graph that was not reducible.
+#[test]
+fn edges_stood_before(rt: HostRuntime) {
+    let alloc = rt.alloc();
+    let page: &[&[u32]] = &[&[1], &[2, 3], &[1, 1], &[], &[1]];
+    cut(&rt, alloc, page, (2, 0), 4, 1, &[(0, 0, 0), (2, 0, 2)]);
+    cut(&rt, alloc, page, (1, 0), 2, 1, &[(0, 0, 0)]);
+    let knot: &[&[u32]] = &[&[1, 2], &[2], &[1, 3], &[]];
+    cut(&rt, alloc, knot, (0, 0), 4, 2, &[(0, 0, 0), (1, 0, 1)]);
+}

@@ -5,11 +5,11 @@ ghost use Rattle.ms_ir.specs.Graph.{graph_of};
 ghost use Rattle.ms_flow.specs.Table.{edges_of};
 ghost use Rattle.ms_test_functions.specs.Together.{IsTogether};
 
-use crate::graph::{P, flow_of, form_of, function, load, put, store, take};
+use crate::graph::{P, flow_of, form_of, function, is_conditional, load, put, store, take};
 use ms_flow::Flow;
 use ms_form::{Access, Form};
 use ms_ir::{BlockNo, Func, Inst, InstNo, Name, Steps, Val};
-use ms_update::{insert, remove, shift};
+use ms_update::{drop_edge, insert, remove, shift};
 use std::alloc::Global;
 use std::process::Abort;
 
@@ -339,4 +339,71 @@ fn every_remove(rt: HostRuntime) {
     for i in 0..8 {
         take_one(&rt, rt.alloc(), InstNo(i));
     }
+}
+
+// Cuts the edge at a slot of a block.
+fn cut_with(
+    rt: &impl Abort,
+    alloc: Global,
+    f: &mut Func,
+    flow: &mut Flow,
+    form: &mut Form,
+    b: BlockNo,
+    slot: u32,
+    steps: &mut Steps,
+)
+    requires { IsTogether f.old flow.old form.old }
+    ensures { IsTogether f.new flow.new form.new }
+{
+    let mut asked = Steps::new(alloc).ok().expect(rt, "memory");
+    assert!(rt; slot < 2);
+    assert!(rt; b.0 < f.block_count());
+    assert!(rt; is_conditional(f, b, &mut asked));
+    drop_edge(form, f, flow, b, slot, steps);
+}
+
+// Cuts an edge of a function with blocks of this shape, and expects how many edges are left.
+fn cut_of(
+    rt: &impl Abort,
+    alloc: Global,
+    shape: &[&[u32]],
+    stores: &[u32],
+    loads: &[u32],
+    edge: (u32, u32),
+    left: u64,
+) {
+    let mut f = accessed(rt, alloc, shape, stores, loads);
+    let mut flow = flow_of(rt, alloc, &f);
+    let mut form = begin(rt, alloc, &f, &flow);
+    let mut steps = Steps::new(alloc).ok().expect(rt, "memory");
+    let (b, slot) = edge;
+    cut_with(
+        rt,
+        alloc,
+        &mut f,
+        &mut flow,
+        &mut form,
+        BlockNo(b),
+        slot,
+        &mut steps,
+    );
+    expect_fresh(rt, alloc, &f, &flow, &form);
+    assert_eq!(rt; steps.count(), left);
+}
+
+// An edge of a block with two to one block; the way back of a loop; a block that is reached no longer, whose phi has users; an edge of a
+// block that is not reached; and an arm of a diamond in a loop.
+#[test]
+fn edges_are_cut(rt: HostRuntime) {
+    let alloc = rt.alloc();
+    let twice: &[&[u32]] = &[&[1], &[2, 3], &[1, 1], &[]];
+    cut_of(&rt, alloc, twice, &[0, 2], &[1, 3], (2, 0), 4);
+    cut_of(&rt, alloc, twice, &[0, 2], &[1, 3], (1, 0), 2);
+    let lost: &[&[u32]] = &[&[1, 4], &[2, 3], &[3], &[4], &[]];
+    cut_of(&rt, alloc, lost, &[2], &[3, 4], (0, 0), 1);
+    let apart: &[&[u32]] = &[&[2], &[2, 2], &[]];
+    cut_of(&rt, alloc, apart, &[0, 1], &[2], (1, 1), 1);
+    let looped: &[&[u32]] = &[&[1], &[2, 3], &[4], &[4], &[1, 5], &[]];
+    cut_of(&rt, alloc, looped, &[0, 2], &[1, 4, 5], (4, 0), 6);
+    cut_of(&rt, alloc, looped, &[0, 2], &[1, 4, 5], (1, 1), 5);
 }

@@ -467,3 +467,95 @@ fn select_in_a_loop_unlinked_first_print(rt: HostRuntime) -> Result<(), Fail> {
     expect_form(&rt, rt.alloc(), SELECTED, SELECTED_FORM)?;
     Ok(())
 }
+
+const INDEXED: &[u8] = b"define i32 @t(ptr %p, i1 %c) {
+entry:
+  br label %h
+
+h:
+  %i = phi i64 [ 0, %entry ], [ %j, %h ]
+  %g = getelementptr i32, ptr %p, i64 %i
+  %k = getelementptr i32, ptr %g, i64 1
+  store i32 1, ptr %g, align 4
+  %x = load i32, ptr %g, align 4
+  %y = load i32, ptr %p, align 4
+  %z = load i32, ptr %k, align 4
+  %j = add i64 %i, 1
+  br i1 %c, label %h, label %e
+
+e:
+  ret i32 %x
+}
+";
+
+const INDEXED_FORM: &[u8] = b"MemorySSA for function: t
+define i32 @t(ptr %p, i1 %c) {
+entry:
+  br label %h
+
+h:
+; 1 = MemoryPhi({entry,liveOnEntry},{h,2})
+  %i = phi i64 [ 0, %entry ], [ %j, %h ]
+  %g = getelementptr i32, ptr %p, i64 %i
+  %k = getelementptr i32, ptr %g, i64 1
+; 2 = MemoryDef(1)
+  store i32 1, ptr %g, align 4
+; MemoryUse(2)
+  %x = load i32, ptr %g, align 4
+; MemoryUse(2)
+  %y = load i32, ptr %p, align 4
+; MemoryUse(1)
+  %z = load i32, ptr %k, align 4
+  %j = add i64 %i, 1
+  br i1 %c, label %h, label %e
+
+e:
+  ret i32 %x
+}
+
+";
+
+#[test]
+fn variable_index_in_a_loop(rt: HostRuntime) -> Result<(), Fail> {
+    expect_form(&rt, rt.alloc(), INDEXED, INDEXED_FORM)?;
+    Ok(())
+}
+
+const ELEMENT: &[u8] = b"define void @i(i64 %n) {
+  %a = alloca [8 x i8]
+  %b = alloca [8 x i8]
+  %g = getelementptr [8 x i8], ptr %a, i64 0, i64 %n
+  store i8 1, ptr %b
+  store i8 2, ptr %g
+  %x = load i8, ptr %a
+  %y = load i8, ptr %b
+  %z = load i8, ptr %g
+  ret void
+}
+";
+
+const ELEMENT_FORM: &[u8] = b"MemorySSA for function: i
+define void @i(i64 %n) {
+  %a = alloca [8 x i8]
+  %b = alloca [8 x i8]
+  %g = getelementptr [8 x i8], ptr %a, i64 0, i64 %n
+; 1 = MemoryDef(liveOnEntry)
+  store i8 1, ptr %b
+; 2 = MemoryDef(1)
+  store i8 2, ptr %g
+; MemoryUse(2)
+  %x = load i8, ptr %a
+; MemoryUse(1)
+  %y = load i8, ptr %b
+; MemoryUse(2)
+  %z = load i8, ptr %g
+  ret void
+}
+
+";
+
+#[test]
+fn variable_index_into_an_array(rt: HostRuntime) -> Result<(), Fail> {
+    expect_form(&rt, rt.alloc(), ELEMENT, ELEMENT_FORM)?;
+    Ok(())
+}

@@ -132,7 +132,7 @@ const EDGES: [(&str, u32); 10] = [
     ("unlink @f %k 1", 17),
 ];
 
-const TWO: [(&str, u32); 10] = [
+const TWO: [(&str, u32); 16] = [
     ("remove @f %nope 99", 11),
     ("insert @f %l 0: %u = load i32, ptr %n", 11),
     ("insert @f %entry 9: store i32 %nope, ptr %p", 11),
@@ -143,6 +143,15 @@ const TWO: [(&str, u32); 10] = [
     ("insert @f %l 0: %new = add i32 %u, 2", 13),
     ("remove @f %entry 0", 13),
     ("insert @f %l 0: store i8 %u, ptr %p", 14),
+    ("unlink @f %nope 2", 11),
+    ("move @f %nope 9 to %j 0", 11),
+    ("move @f %l 9 to %j 0", 12),
+    ("move @f %j 0 to %l 9", 12),
+    ("move @f %j 1 to %l 0", 13),
+    (
+        "insert @f %nope 0: %new = getelementptr i8, ptr %p, i64 %n",
+        11,
+    ),
 ];
 
 fn check_rows(rt: &impl Abort, alloc: Global, module: &Module)
@@ -197,4 +206,41 @@ fn refused_scripts(rt: HostRuntime) {
     let alloc = rt.alloc();
     let module = module_of(&rt, alloc, VALUES);
     check_refused(&rt, alloc, &module);
+}
+
+const STRIDES: &[u8] = b"define void @s(ptr %p, i64 %n, i32 %k) {
+  %q = getelementptr i8, ptr %p, i64 %n
+  store i8 1, ptr %q
+  ret void
+}
+";
+
+// A getelementptr with a local among its indices is not inserted, removed or moved; what uses it is.
+const STRIDE: [(&str, u32); 13] = [
+    ("insert @s %0 1: store i8 1, ptr %q", 0),
+    ("insert @s %0 0: store i8 1, ptr %q", 15),
+    ("insert @s %0 1: %w = getelementptr i8, ptr %q, i64 %n", 13),
+    ("insert @s %0 1: %w = getelementptr i8, ptr %q, i64 %k", 13),
+    ("insert @s %0 0: %w = getelementptr i8, ptr %q, i64 %n", 13),
+    ("insert @s %0 3: %w = getelementptr i8, ptr %q, i64 %n", 12),
+    ("insert @s %0 1: %q = getelementptr i8, ptr %p, i64 %n", 11),
+    ("remove @s %0 0", 13),
+    ("move @s %0 0 to %0 1", 13),
+    ("move @s %0 0 to %0 0", 13),
+    ("remove @s %0 1", 0),
+    ("move @s %0 1 to %0 1", 0),
+    ("move @s %0 1 to %0 0", 15),
+];
+
+fn check_strides(rt: &impl Abort, alloc: Global, module: &Module)
+    requires { AreOpen module.now }
+{
+    expect(rt, alloc, module, &STRIDE);
+}
+
+#[test]
+fn edits_beside_variable_indices(rt: HostRuntime) {
+    let alloc = rt.alloc();
+    let module = module_of(&rt, alloc, STRIDES);
+    check_strides(&rt, alloc, &module);
 }

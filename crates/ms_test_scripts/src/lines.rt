@@ -117,12 +117,90 @@ const LIMITS: [(&str, u32); 10] = [
     ),
 ];
 
+// Locals among the indices of a getelementptr: such a line is one of the grammar, and no edit inserts it.
+const INDICES: [(&str, u32); 25] = [
+    ("insert @z %0 0: %w = getelementptr i8, ptr %p, i64 %n", 13),
+    ("insert @z %0 0: %w = getelementptr i8,ptr %p,i64%n", 13),
+    (
+        "insert @z %0 0: %w = getelementptr [4 x i32], ptr @g, i32 1, i64 %n, align 4",
+        13,
+    ),
+    ("insert @z %0 0: %5 = getelementptr i8, ptr %p, i64 %n", 8),
+    ("insert @z %0 0: getelementptr i8, ptr %p, i64 %n", 8),
+    ("insert @z %0 0: %w = getelementptr i8, ptr %p, i1 %n", 8),
+    ("insert @z %0 0: %w = getelementptr i8, ptr %p, i64 @g", 8),
+    (
+        "insert @z %0 0: %w = getelementptr i8, ptr %p, i64 %n, i64 %n",
+        8,
+    ),
+    ("insert @z %0 0: %x = getelementptr i8, ptr %p, i64 %n", 11),
+    (
+        "insert @z %0 0: %w = getelementptr i8, ptr %nope, i64 %n",
+        11,
+    ),
+    (
+        "insert @z %0 0: %w = getelementptr i8, ptr @nope, i64 %n",
+        11,
+    ),
+    (
+        "insert @z %0 0: %w = getelementptr i8, ptr %p, i64 %nope",
+        11,
+    ),
+    ("insert @z %0 0: %w = getelementptr i8, ptr %p, i64 %w", 11),
+    ("insert @z %0 0: %w = getelementptr i8, ptr %p, i64 %0", 11),
+    (
+        "insert @z %0 0: %w = getelementptr [4 x i32], ptr %p, i64 %n, i64 %nope",
+        11,
+    ),
+    (
+        "insert @z %0 0: %w = getelementptr [4 x i32], ptr %p, i64 %nope, i64 %n",
+        11,
+    ),
+    (
+        "insert @z %0 0: %w = getelementptr [2147483648 x i8], ptr %p, i64 %n",
+        13,
+    ),
+    (
+        "insert @z %0 0: %w = getelementptr [2147483649 x i8], ptr %p, i64 %n",
+        9,
+    ),
+    (
+        "insert @z %0 0: %w = getelementptr [2147483649 x i8], ptr %p, i64 %nope",
+        9,
+    ),
+    (
+        "insert @z %0 0: %w = getelementptr [2147483649 x i8], ptr %p, i64 0, i64 %n",
+        13,
+    ),
+    (
+        "insert @z %0 0: %w = getelementptr [2 x [2147483649 x i8]], ptr %p, i64 0, i64 %n",
+        9,
+    ),
+    (
+        "insert @z %0 0: %w = getelementptr [2 x i8], ptr %p, i64 %n, i64 2147483648",
+        13,
+    ),
+    (
+        "insert @z %0 0: %w = getelementptr [2 x i8], ptr %p, i64 %n, i64 2147483649",
+        9,
+    ),
+    (
+        "insert @z %0 0: %w = getelementptr [2 x i8], ptr %p, i64 %n, i64 -2147483648",
+        13,
+    ),
+    (
+        "insert @z %0 0: %w = getelementptr [2 x i8], ptr %p, i64 %n, i64 -2147483649",
+        9,
+    ),
+];
+
 fn check_rows(rt: &impl Abort, alloc: Global, module: &Module)
     requires { AreOpen module.now }
 {
     expect(rt, alloc, module, &FORMS);
     expect(rt, alloc, module, &CALLS);
     expect(rt, alloc, module, &LIMITS);
+    expect(rt, alloc, module, &INDICES);
 }
 
 #[test]
@@ -151,7 +229,7 @@ fn padded(
 }
 
 // Texts that are too long to be written out, with their refusals and the lines of those.
-const LONG: [(&str, u8, u32, &str, u32, u32); 12] = [
+const LONG: [(&str, u8, u32, &str, u32, u32); 19] = [
     ("", b'\n', 4095, "remove @z %0 2", 0, 0),
     ("", b'\n', 4095, "remove @z %0 2\n", 0, 0),
     ("", b'\n', 4096, "", 0, 0),
@@ -164,6 +242,27 @@ const LONG: [(&str, u8, u32, &str, u32, u32); 12] = [
     ("remove @", b'z', 256, " %0 2", 8, 1),
     ("insert @z %0 0: store i32 1, ptr %", b'b', 255, "", 11, 1),
     ("insert @z %0 0: store i32 1, ptr %", b'b', 256, "", 9, 1),
+    ("move @z %0 2 to %", b'b', 255, " 1", 11, 1),
+    ("move @z %0 2 to %", b'b', 256, " 1", 9, 1),
+    ("insert @z %0 0: %", b'b', 255, " = load i32, ptr %p", 0, 0),
+    ("insert @z %0 0: %", b'b', 256, " = load i32, ptr %p", 9, 1),
+    ("insert @z %0 0: call void @", b'z', 256, "()", 8, 1),
+    (
+        "insert @z %0 0: %w = getelementptr i8, ptr %p, i64 %",
+        b'b',
+        255,
+        "",
+        11,
+        1,
+    ),
+    (
+        "insert @z %0 0: %w = getelementptr i8, ptr %p, i64 %",
+        b'b',
+        256,
+        "",
+        9,
+        1,
+    ),
 ];
 
 fn check_long(rt: &impl Abort, alloc: Global, module: &Module)

@@ -31,7 +31,7 @@ fn accepted(alloc: Global, draft: &Draft) -> Option<Module>
 {
     ms_read::laws::draft_told();
     ms_read::laws::places_told();
-    ms_accepted::laws::accepted_are_sound();
+    ms_valid::laws::accepted_are_sound();
     match accept(alloc, draft) {
         Ok(module) => Some(module),
         Err(_) => None,

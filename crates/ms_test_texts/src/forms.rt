@@ -3,7 +3,7 @@ use crate::told::{expect, expect_none};
 use std::test::Fail;
 
 // Lines and what they are printed as.
-const IN_EACH_FORM: [(&str, &str); 59] = [
+const IN_EACH_FORM: [(&str, &str); 67] = [
     ("%a=alloca i8", "  %a = alloca i8"),
     (
         "%a = alloca [ 2 x [3 x i16] ] , align 4, !a !b",
@@ -16,6 +16,38 @@ const IN_EACH_FORM: [(&str, &str); 59] = [
     (
         "%q = getelementptr inbounds nuw [4 x [2 x i32]],ptr @g,i64 0,i32 3, i8 01, !a !b",
         "  %q = getelementptr inbounds nuw [4 x [2 x i32]], ptr @g, i64 0,i32 3, i8 01, !a !b",
+    ),
+    (
+        "%q = getelementptr i8, ptr %p, i64 %i",
+        "  %q = getelementptr i8, ptr %p, i64 %i",
+    ),
+    (
+        "%q=getelementptr i8,ptr %p,i64%i",
+        "  %q = getelementptr i8, ptr %p, i64 %i",
+    ),
+    (
+        "%q = getelementptr i8, ptr %p, i64   %i",
+        "  %q = getelementptr i8, ptr %p, i64   %i",
+    ),
+    (
+        "%q = getelementptr i8, ptr %p, i64\t%i",
+        "  %q = getelementptr i8, ptr %p, i64\t%i",
+    ),
+    (
+        "%q = getelementptr i8, ptr @g, i8 %0, !a !b",
+        "  %q = getelementptr i8, ptr @g, i8 %0, !a !b",
+    ),
+    (
+        "%q = getelementptr inbounds nuw [4 x [2 x i32]],ptr @g,i64%i,i32 3 ,  i16%j , align 4",
+        "  %q = getelementptr inbounds nuw [4 x [2 x i32]], ptr @g, i64 %i,i32 3 ,  i16 %j, align 4",
+    ),
+    (
+        "%q = getelementptr [4 x i32], ptr %p, i64 -1, i64 %i",
+        "  %q = getelementptr [4 x i32], ptr %p, i64 -1, i64 %i",
+    ),
+    (
+        "%q = getelementptr [4 x i32], ptr %q, i32 %q, i64 007",
+        "  %q = getelementptr [4 x i32], ptr %q, i32 %q, i64 007",
     ),
     ("%v = load i64,ptr @g", "  %v = load i64, ptr @g"),
     (
@@ -139,7 +171,7 @@ fn instructions_in_each_form(rt: HostRuntime) -> Result<(), Fail> {
     expect(&rt, rt.alloc(), &IN_EACH_FORM)
 }
 
-const IN_NO_FORM: [&str; 72] = [
+const IN_NO_FORM: [&str; 79] = [
     "switch i32 %x, label %a",
     "indirectbr ptr %p, [label %a]",
     "invoke void @f() to label %a unwind label %b",
@@ -154,7 +186,14 @@ const IN_NO_FORM: [&str; 72] = [
     "%q = getelementptr i8, ptr %p",
     "%q = getelementptr i8, ptr %p, i64 0, i64 0",
     "%q = getelementptr [2 x i8], ptr %p, i64 0, i64 0, i64 0",
-    "%q = getelementptr i8, ptr %p, i64 %i",
+    "getelementptr i8, ptr %p, i64 %i",
+    "%q = getelementptr i8, ptr %p, i1 %i",
+    "%q = getelementptr i8, ptr %p, ptr %i",
+    "%q = getelementptr i8, ptr %p, i64 @i",
+    "%q = getelementptr i8, ptr %p, i64 %i %j",
+    "%q = getelementptr i8, ptr %p, i64 %01",
+    "%q = getelementptr i8, ptr %p, i64 %i, i64 0",
+    "%q = getelementptr [2 x i8], ptr %p, i64 0, i64 %i, i64 %j",
     "%q = getelementptr i8, ptr %p, i1 0",
     "%q = getelementptr { i8 }, ptr %p, i64 0",
     "%q = getelementptr volatile i8, ptr %p, i64 0",

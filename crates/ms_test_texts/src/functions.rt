@@ -76,7 +76,7 @@ fn note(alloc: Global) -> Result<Notes, NoMemory> {
     })
 }
 
-fn no_notes(alloc: Global) -> Notes {
+pub fn no_notes(alloc: Global) -> Notes {
     Notes {
         phis: Items::new(alloc),
         insts: Items::new(alloc),

@@ -7,6 +7,8 @@ mod attributes;
 #[cfg(test)]
 mod built;
 #[cfg(test)]
+mod changed;
+#[cfg(test)]
 mod clang;
 #[cfg(test)]
 mod drafts;

@@ -99,7 +99,7 @@ fn numbers_at_the_ends_of_their_ranges(rt: HostRuntime) -> Result<(), Fail> {
 }
 
 // Sizes, lengths and offsets as they are reached and passed.
-const LIMITS: [(&str, &str); 30] = [
+const LIMITS: [(&str, &str); 48] = [
     ("%a = alloca [65536 x i8]", "  %a = alloca [65536 x i8]"),
     ("%a = alloca [65537 x i8]", PAST),
     ("%a = alloca [8192 x i64]", "  %a = alloca [8192 x i64]"),
@@ -192,6 +192,75 @@ const LIMITS: [(&str, &str); 30] = [
         "%q = getelementptr [340282366920938463463374607431768211455 x [340282366920938463463374607431768211455 x i8]], ptr %p, i64 0, i64 0, i64 7",
         "  %q = getelementptr [340282366920938463463374607431768211455 x [340282366920938463463374607431768211455 x i8]], ptr %p, i64 0, i64 0, i64 7",
     ),
+    (
+        "%q = getelementptr [2147483648 x i8], ptr %p, i64 %i",
+        "  %q = getelementptr [2147483648 x i8], ptr %p, i64 %i",
+    ),
+    ("%q = getelementptr [2147483649 x i8], ptr %p, i64 %i", PAST),
+    (
+        "%q = getelementptr [268435456 x i64], ptr %p, i64 %i, i64 %j",
+        "  %q = getelementptr [268435456 x i64], ptr %p, i64 %i, i64 %j",
+    ),
+    (
+        "%q = getelementptr [268435457 x i64], ptr %p, i64 %i, i64 0",
+        PAST,
+    ),
+    (
+        "%q = getelementptr [268435457 x i64], ptr %p, i64 0, i64 %i",
+        "  %q = getelementptr [268435457 x i64], ptr %p, i64 0, i64 %i",
+    ),
+    (
+        "%q = getelementptr [2 x [2147483649 x i8]], ptr %p, i64 0, i64 %i",
+        PAST,
+    ),
+    (
+        "%q = getelementptr [2 x [2147483649 x i8]], ptr %p, i64 0, i64 0, i64 %i",
+        "  %q = getelementptr [2 x [2147483649 x i8]], ptr %p, i64 0, i64 0, i64 %i",
+    ),
+    (
+        "%q = getelementptr [0 x i8], ptr %p, i64 %i",
+        "  %q = getelementptr [0 x i8], ptr %p, i64 %i",
+    ),
+    (
+        "%q = getelementptr [18446744073709551616 x i8], ptr %p, i64 %i",
+        PAST,
+    ),
+    (
+        "%q = getelementptr [340282366920938463463374607431768211455 x [340282366920938463463374607431768211455 x i8]], ptr %p, i64 %i",
+        PAST,
+    ),
+    (
+        "%q = getelementptr [340282366920938463463374607431768211455 x [340282366920938463463374607431768211455 x i8]], ptr %p, i64 0, i64 0, i64 %i",
+        "  %q = getelementptr [340282366920938463463374607431768211455 x [340282366920938463463374607431768211455 x i8]], ptr %p, i64 0, i64 0, i64 %i",
+    ),
+    (
+        "%q = getelementptr [2 x i8], ptr %p, i64 %i, i64 2147483648",
+        "  %q = getelementptr [2 x i8], ptr %p, i64 %i, i64 2147483648",
+    ),
+    (
+        "%q = getelementptr [2 x i8], ptr %p, i64 %i, i64 2147483649",
+        PAST,
+    ),
+    (
+        "%q = getelementptr [2 x i8], ptr %p, i64 %i, i64 -2147483648",
+        "  %q = getelementptr [2 x i8], ptr %p, i64 %i, i64 -2147483648",
+    ),
+    (
+        "%q = getelementptr [2 x i8], ptr %p, i64 %i, i64 -2147483649",
+        PAST,
+    ),
+    (
+        "%q = getelementptr [2 x [2 x i8]], ptr %p, i64 536870912, i64 %i, i64 0",
+        "  %q = getelementptr [2 x [2 x i8]], ptr %p, i64 536870912, i64 %i, i64 0",
+    ),
+    (
+        "%q = getelementptr [2 x [2 x i8]], ptr %p, i64 536870912, i64 %i, i64 1",
+        PAST,
+    ),
+    (
+        "%q = getelementptr [2 x [2 x i8]], ptr %p, i64 536870913, i64 %i, i64 -4",
+        "  %q = getelementptr [2 x [2 x i8]], ptr %p, i64 536870913, i64 %i, i64 -4",
+    ),
     ("%a = alloca [65537 x i8], align", NO_LINE),
 ];
 
@@ -213,7 +282,7 @@ fn with_name(alloc: Global, before: &str, count: usize, after: &str) -> Result<T
 }
 
 // What stands around a name that is measured.
-const MEASURED: [(&str, &str); 16] = [
+const MEASURED: [(&str, &str); 18] = [
     ("", ":"),
     ("@", " = global i8 0"),
     ("declare void @", "()"),
@@ -225,6 +294,8 @@ const MEASURED: [(&str, &str); 16] = [
     ("  call void @", "()"),
     ("  call void @f(ptr %", ")"),
     ("  %r = select i1 %c, ptr @", ", ptr %b"),
+    ("  %r = getelementptr i8, ptr %", ", i64 %i"),
+    ("  %r = getelementptr i8, ptr %p, i64 %", ", align 1"),
     ("  %r = zext i8 %", " to i64"),
     ("  %r = phi i8 [ 0, %", " ]"),
     ("  %r = phi i8 [ %", ", %a ]"),

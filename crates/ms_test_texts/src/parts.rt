@@ -1,13 +1,14 @@
 // What the tokens of lines say.
 use crate::tokens::read;
-use ms_grammar::Keyword;
+use ms_grammar::{Keyword, RawIndex, RawTerms};
 use ms_ir::{CastOp, Op, Pred, Ty};
 use ms_line_parts::{
-    attributes_front, bytes_of, call_mark_front, call_type_front, cast_at, count_at, global_at,
-    global_line, group_line, indices_fit, indices_front, is_kept_line, is_keyword, is_tail, kept,
-    local_at, member_front, name_of, number_at, object_front, object_size, offset, op_at,
-    post_front, pred_at, type_at, value_at,
+    attributes_front, bytes_of, call_mark_front, call_type_front, cast_at, count_at, cut_text,
+    global_at, global_line, group_line, index_terms, indices_front, is_kept_line, is_keyword,
+    is_tail, kept, local_at, member_front, name_of, number_at, object_front, object_size, op_at,
+    post_front, pred_at, small_offset, type_at, value_at,
 };
+use std::process::Abort;
 use std::test::Fail;
 
 #[test]
@@ -125,11 +126,20 @@ fn wholes(rt: HostRuntime) -> Result<(), Fail> {
     Ok(())
 }
 
+// Expects one local among indices, which counts by six bytes.
+fn expect_term(rt: &impl Abort, terms: &RawTerms) {
+    match terms.as_slice() {
+        [RawIndex { ty, scale, .. }] => assert!(rt; *ty == Ty::I32 && *scale == 6),
+        _ => assert!(rt; false, "other terms"),
+    }
+}
+
 #[test]
 fn objects(rt: HostRuntime) -> Result<(), Fail> {
-    let text = "[2 x [3 x i16]] i64 1, i32 -2, i8 1, align 4";
+    let alloc = rt.alloc();
+    let text = "[2 x [3 x i16]] i64 1, i32%n, i8 1, align 4";
     let line = text.as_bytes();
-    let list = read(rt.alloc(), line)?;
+    let list = read(alloc, line)?;
     let tokens = list.as_slice();
     if tokens.len() != 20 {
         return Err("other tokens")?;
@@ -139,7 +149,10 @@ fn objects(rt: HostRuntime) -> Result<(), Fail> {
     assert_eq!(rt; object_front(line, tokens), Some(9));
     assert_eq!(rt; object_size(line, object), Some(12));
     assert_eq!(rt; indices_front(line, &tokens[9..]), 8);
-    assert_eq!(rt; offset(line, object, indices), Some(2));
-    assert!(rt; indices_fit(line, object, indices));
+    let terms = index_terms(alloc, line, object, indices)?.ok_or("no terms")?;
+    expect_term(&rt, &terms);
+    assert_eq!(rt; small_offset(line, object, indices, &terms), Some(14));
+    let cut = cut_text(alloc, line, indices)?;
+    assert!(rt; cut.bytes() == b"i64 1, i32 %, i8 1".as_slice());
     Ok(())
 }

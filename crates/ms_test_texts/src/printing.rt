@@ -2,7 +2,8 @@
 // that no early exit drops a line: that is dear to prove.
 use crate::built::{a_pointer, head, text, word};
 use ms_grammar::{
-    Head, Line, RawArg, RawArgs, RawEntries, RawEntry, RawInst, RawTerm, RawVal, write_line,
+    Head, Line, RawArg, RawArgs, RawEntries, RawEntry, RawIndex, RawInst, RawTerm, RawTerms,
+    RawVal, write_line,
 };
 use ms_ir::{CastOp, Flags, Name, NoMemory, Op, Param, Params, Pred, Text, Ty};
 use std::alloc::Global;
@@ -193,6 +194,31 @@ fn gep(alloc: Global) -> Result<Line, NoMemory> {
     made(alloc, "t", inst)
 }
 
+fn index(val: RawVal, ty: Ty, scale: u64) -> RawIndex {
+    RawIndex { val, ty, scale }
+}
+
+// A local, a number and a local without a word.
+fn three_terms(alloc: Global) -> Result<RawTerms, NoMemory> {
+    let mut terms = RawTerms::new(alloc);
+    terms.push(index(local(alloc, "n")?, Ty::I64, 16))?;
+    terms.push(index(RawVal::Num(Ty::I8, 255), Ty::I8, 8))?;
+    terms.push(index(RawVal::Local(Name::Number(7)), Ty::I32, 4))?;
+    Ok(terms)
+}
+
+fn step(alloc: Global) -> Result<Line, NoMemory> {
+    let inst = RawInst::Step {
+        base: RawVal::Global(word(alloc, "g")?),
+        offset: 4,
+        head: text(alloc, "inbounds [4 x [2 x [2 x i32]]]")?,
+        index: text(alloc, "i64 %, i8   %, i64 1,i32 %")?,
+        tail: text(alloc, ", align 4")?,
+        terms: three_terms(alloc)?,
+    };
+    made(alloc, "t", inst)
+}
+
 fn load(alloc: Global) -> Result<Line, NoMemory> {
     let inst = RawInst::Load {
         ty: Ty::I32,
@@ -216,6 +242,12 @@ fn pointers(rt: HostRuntime) {
         alloc,
         gep(alloc),
         "  %t = getelementptr inbounds [4 x i32], ptr @g, i64 0, i64 1",
+    );
+    expect(
+        &rt,
+        alloc,
+        step(alloc),
+        "  %t = getelementptr inbounds [4 x [2 x [2 x i32]]], ptr @g, i64 %n, i8   -1, i64 1,i32 %7, align 4",
     );
     expect(
         &rt,

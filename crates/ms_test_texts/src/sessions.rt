@@ -43,7 +43,7 @@ fn accepted(alloc: Global, draft: &Draft) -> Option<Module>
 {
     ms_read::laws::draft_told();
     ms_read::laws::places_told();
-    ms_accepted::laws::accepted_are_sound();
+    ms_valid::laws::accepted_are_sound();
     match accept(alloc, draft) {
         Ok(module) => Some(module),
         Err(_) => None,
@@ -51,7 +51,7 @@ fn accepted(alloc: Global, draft: &Draft) -> Option<Module>
 }
 
 // The module of a text.
-fn module_of(rt: &impl Abort, alloc: Global, text: &[u8]) -> Module
+pub fn module_of(rt: &impl Abort, alloc: Global, text: &[u8]) -> Module
     ensures { AreOpen result }
 {
     let draft = read(alloc, text).expect(rt, "a text that is read");
@@ -59,7 +59,7 @@ fn module_of(rt: &impl Abort, alloc: Global, text: &[u8]) -> Module
 }
 
 // The first function of a module.
-fn first_of(m: &mut Module) -> Option<Func>
+pub fn first_of(m: &mut Module) -> Option<Func>
     requires { AreOpen m.old }
     ensures sound { IfSome result (λ f. IsSoundFunc f) }
     ensures near { IfSome result (λ f. AreOffsetsNear f) }

@@ -11,7 +11,7 @@ fn sort(alloc: Global, line: &[u8]) -> Result<Sort, LineFault> {
 }
 
 // A line of each form, and its sort.
-const SORTS: [(&str, Sort); 34] = [
+const SORTS: [(&str, Sort); 36] = [
     ("", Sort::Blank),
     (" \t; }", Sort::Blank),
     ("source_filename = \"a\"", Sort::Item),
@@ -31,6 +31,11 @@ const SORTS: [(&str, Sort); 34] = [
     ("%x = phi i32 [ 1, %a ]", Sort::Phi),
     ("%x = getelementptr i8, ptr %p, i64 1", Sort::Other),
     ("%x = getelementptr i8, ptr %p, i64 2147483649", Sort::Other),
+    ("%x = getelementptr i8, ptr %p, i64 %i", Sort::Other),
+    (
+        "%x = getelementptr [2147483649 x i8], ptr %p, i64%i",
+        Sort::Other,
+    ),
     ("%x = load i8, ptr %p", Sort::Other),
     ("store i8 0, ptr %p", Sort::Other),
     (

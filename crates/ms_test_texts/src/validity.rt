@@ -537,3 +537,137 @@ const ORDER: [(&str, u32, u32); 17] = [
 fn order_and_loops(rt: HostRuntime) -> Result<(), Fail> {
     expect(&rt, rt.alloc(), &ORDER)
 }
+
+// Locals among the indices of a getelementptr, each as an operand: what is read, what passes a limit, and then faults in names, types and order.
+const INDICES: [(&str, u32, u32); 25] = [
+    (
+        "define void @f(ptr %p, i64 %n) {\n  %q = getelementptr i8, ptr %p, i64 %n\n  ret void\n}\n",
+        0,
+        0,
+    ),
+    (
+        "define void @f(ptr %p, i64 %n) {\n  %q = getelementptr i8, ptr %p, i64%n\n  ret void\n}\n",
+        0,
+        0,
+    ),
+    (
+        "define void @f(ptr, i8) {\n  %q = getelementptr [4 x i32], ptr %0, i8 %1, i8 %1\n  ret void\n}\n",
+        0,
+        0,
+    ),
+    (
+        "define void @f(ptr %p, i64 %n) {\n  %q = getelementptr i8, ptr %p, i1 %n\n  ret void\n}\n",
+        1,
+        2,
+    ),
+    (
+        "define void @f(ptr %p, i64 %n) {\n  %q = getelementptr [2147483648 x i8], ptr %p, i64 %n\n  ret void\n}\n",
+        0,
+        0,
+    ),
+    (
+        "define void @f(ptr %p, i64 %n) {\n  %q = getelementptr [2147483649 x i8], ptr %p, i64 %n\n  ret void\n}\n",
+        2,
+        2,
+    ),
+    (
+        "define void @f(ptr %p, i64 %n) {\n  %q = getelementptr [2 x i8], ptr %p, i64 %n, i64 2147483648\n  ret void\n}\n",
+        0,
+        0,
+    ),
+    (
+        "define void @f(ptr %p, i64 %n) {\n  %q = getelementptr [2 x i8], ptr %p, i64 %n, i64 2147483649\n  ret void\n}\n",
+        2,
+        2,
+    ),
+    (
+        "define void @f(ptr %p, i64 %n) {\n  %q = getelementptr [2 x i8], ptr %p, i64 %n, i64 -2147483649\n  ret void\n}\n",
+        2,
+        2,
+    ),
+    (
+        "define void @f(ptr %p) {\n  %q = getelementptr i8, ptr %p, i64 %n\n  ret void\n}\n",
+        3,
+        2,
+    ),
+    (
+        "define void @f(ptr %p, i64 %n) {\n  %q = getelementptr [2 x i8], ptr %p, i64 %n, i64 %m\n  ret void\n}\n",
+        3,
+        2,
+    ),
+    (
+        "define void @f(ptr %p, i64 %n) {\n  %q = getelementptr [2 x i8], ptr %p, i64 %m, i64 %n\n  ret void\n}\n",
+        3,
+        2,
+    ),
+    (
+        "define void @f(i64 %n) {\n  %q = getelementptr i8, ptr %p, i64 %n\n  ret void\n}\n",
+        3,
+        2,
+    ),
+    (
+        "define void @f(ptr %p) {\na:\n  %q = getelementptr i8, ptr %p, i64 %a\n  ret void\n}\n",
+        3,
+        3,
+    ),
+    (
+        "define void @f(ptr %p, i32 %n) {\n  %q = getelementptr i8, ptr %p, i64 %n\n  ret void\n}\n",
+        4,
+        2,
+    ),
+    (
+        "define void @f(ptr %p) {\n  %q = getelementptr i8, ptr %p, i64 %p\n  ret void\n}\n",
+        4,
+        2,
+    ),
+    (
+        "define void @f(ptr %p, i64 %n, i32 %m) {\n  %q = getelementptr [2 x i8], ptr %p, i64 %n, i64 %m\n  ret void\n}\n",
+        4,
+        2,
+    ),
+    (
+        "define void @f(i64 %p) {\n  %q = getelementptr i8, ptr %p, i64 %p\n  ret void\n}\n",
+        4,
+        2,
+    ),
+    (
+        "define void @f(ptr %p) {\n  %q = getelementptr i8, ptr %p, i64 %n\n  %n = add i64 1, 2\n  ret void\n}\n",
+        6,
+        2,
+    ),
+    (
+        "define void @f(ptr %p) {\n  %n = add i64 1, 2\n  %q = getelementptr i8, ptr %p, i64 %n\n  ret void\n}\n",
+        0,
+        0,
+    ),
+    (
+        "define void @f(ptr %p, i64 %n) {\n  %q = getelementptr [2 x i8], ptr %p, i64 %n, i64 %m\n  %m = add i64 1, 2\n  ret void\n}\n",
+        6,
+        2,
+    ),
+    (
+        "define void @f(i64 %n) {\n  %q = getelementptr i8, ptr %q, i64 %n\n  ret void\n}\n",
+        6,
+        2,
+    ),
+    (
+        "define void @f(ptr %p) {\n  ret void\nb:\n  %q = getelementptr i8, ptr %p, i64 %n\n  %n = add i64 1, 2\n  ret void\n}\n",
+        0,
+        0,
+    ),
+    (
+        "define void @f(ptr %p, i1 %c) {\na:\n  br label %b\nb:\n  %i = phi i64 [ 0, %a ], [ %j, %b ]\n  %q = getelementptr i8, ptr %p, i64 %i\n  %j = add i64 %i, 1\n  br i1 %c, label %b, label %d\nd:\n  ret void\n}\n",
+        0,
+        0,
+    ),
+    (
+        "define void @f(ptr %p, i1 %c) {\na:\n  br label %b\nb:\n  %q = getelementptr i8, ptr %p, i64 %j\n  %j = add i64 1, 1\n  br i1 %c, label %b, label %d\nd:\n  ret void\n}\n",
+        6,
+        5,
+    ),
+];
+
+#[test]
+fn indices(rt: HostRuntime) -> Result<(), Fail> {
+    expect(&rt, rt.alloc(), &INDICES)
+}

@@ -1,6 +1,4 @@
-pub mod Cause
-pub mod Faults
-pub mod Raw
-pub mod Tables
-pub mod Told
-pub mod View
+pub mod Func
+pub mod Limits
+pub mod Edits
+pub mod Module

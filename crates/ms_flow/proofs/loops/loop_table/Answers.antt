@@ -15,17 +15,17 @@ loop-b-preserved c =
     let g = c.args.table.now in
     let b = c.loop-b.b in
     let closed = c.requires.closed in
-    let lows = c.in_ok-lows.lows.items in
+    let lows = c.lows.new.lows.items in
     let items = c.loop-b.cyclic.items in
     let len = c.len-b-end.ensures.len in
     let within : b < length g = omega arith in
     let blocks = c.loop-b.invariant.0 in
-    let low_blocks = c.in_ok-lows.ensures.blocks in
+    let low_blocks = c.lows.ensures.blocks in
     let stands = c.requires.ordered.places b within in
     let told : (c.match-order-b.value ≡ true) ↔ FallsBack g b = elim c.match-order-b.branch [
       | in-Some w ↦
           let low : w.index.result.now ≡ get_or lows b 0 = w.index.ensures ∙ get_or_default lows b w.index.result.now 0 (omega arith) in
-          let back = low_told g closed lows b w.in-Some.place c.in_ok-lows.ensures (sym stands ∙ w.in-Some.is) in
+          let back = low_told g closed lows b w.in-Some.place c.lows.ensures (sym stands ∙ w.in-Some.is) in
           rw (w.value-is, low) (λ t. back.0 (leb-true _ _ t), λ f. le-leb _ _ (back.1 f))
       | in-None w ↦
           let is : order_of g b ≡ None = sym stands ∙ w.in-None.is in

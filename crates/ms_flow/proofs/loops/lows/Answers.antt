@@ -9,11 +9,8 @@ use Rattle.ms_flow.proofs.loops.lows.Goals as goal
 
 pub loop-k-init : goal.loop-k-init
 loop-k-init c =
-    let size = c.in_ok-lows.lows.ok.0 in
-    let blocks = c.len.ensures.len in
-    let len = c.in_ok-lows.ensures.len in
     let all : length c.args.left.now ≡ length (walked c.args.table.now).left = sym (length-reverse c.args.left.now) ∙ ap length c.requires.left in
-    none_low c.args.table.now c.requires.closed c.in_ok-lows.lows.items (length c.args.left.now - 0) (omega arith) (omega arith)
+    none_low c.args.table.now c.requires.closed c.args.lows.now.items (length c.args.left.now - 0) c.requires.sized (omega arith)
 
 pub low_of-requires-clause-b : goal.low_of-requires-clause-b
 low_of-requires-clause-b c =

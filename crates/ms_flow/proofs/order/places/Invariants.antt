@@ -6,4 +6,4 @@ use Rattle.ms_flow.proofs.order.places.Given as goal
 
 -- the places among the first that were left, later by those that are to come
 abbrev pub invariant-loop-k : goal.invariant-loop-k
-invariant-loop-k l = (length l.order.items ≡ l.fn.blocks) × ((b : ℕ) → b < l.fn.blocks → get_or l.order.items b None ≡ later (l.count - l.k) (place_in (reverse (take l.k l.left)) b))
+invariant-loop-k l = (length l.order.items ≡ length l.initial.order.items) × ((b : ℕ) → b < length l.initial.order.items → get_or l.order.items b None ≡ later (l.count - l.k) (place_in (reverse (take l.k l.left)) b))

@@ -1,8 +1,8 @@
-use Rattle.ms_line_insts.proofs.Geps.{indices_found, indices_none, indices_no_tail}
+use Rattle.ms_line_insts.proofs.Geps.{indices_found, indices_no_lead, indices_none, indices_no_tail}
 use Rattle.ms_line_insts.proofs.memory.indices_end.Goals as goal
 
 pub returns-in_default : goal.returns-in_default
-returns-in_default c = λ values index rest h. c.in_default.ensures _ h
+returns-in_default c = indices_no_lead c.args.line.now c.args.tokens.now c.in_default.ensures
 
 pub returns-in_default-indices_cut : goal.returns-in_default-indices_cut
 returns-in_default-indices_cut c = indices_none c.args.line.now c.args.tokens.now c.in-Some.at_index.now c.in-Some.ensures c.in_default-indices_cut.ensures

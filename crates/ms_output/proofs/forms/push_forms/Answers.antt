@@ -1,6 +1,6 @@
 use Rattle.std.proofs.Common.{Some, sym, ap, subst, ◌∙◌, slice_get}
 use Rattle.ms_ir.specs.Module.{ModuleState, IsDefined}
-use Rattle.ms_valid.proofs.BodyLemmas.{body_found}
+use Rattle.ms_validity.proofs.BodyLemmas.{body_found}
 use Rattle.ms_output.proofs.Taken.{set_there, put_back, none_taken}
 use Rattle.ms_output.proofs.forms.push_forms.Goals as goal
 

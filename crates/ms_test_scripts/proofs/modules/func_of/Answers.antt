@@ -4,7 +4,7 @@ use Rattle.ms_ir.specs.Func.{FuncState}
 use Rattle.ms_ir.specs.Module.{ModuleState, body_of}
 use Rattle.ms_ir.specs.SoundFunc.{IsSoundFunc}
 use Rattle.ms_alias.specs.Offsets.{AreOffsetsNear}
-use Rattle.ms_valid.proofs.BodyLemmas.{body_found}
+use Rattle.ms_validity.proofs.BodyLemmas.{body_found}
 use Rattle.ms_output.specs.Forms.{AreOpen}
 use Rattle.ms_test_scripts.proofs.modules.func_of.Goals as goal
 

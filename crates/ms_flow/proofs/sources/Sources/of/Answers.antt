@@ -1,5 +1,6 @@
-use Rattle.std.proofs.Common.{get_or, sym, ◌∙◌, arith}
+use Rattle.std.proofs.Common.{◌<◌, ℕ, List, [], length, get_or, sym, ◌∙◌, subst, arith}
 use Rattle.std.proofs.lemmas.List.Elements.{Contains-get_or}
+use Rattle.ms_flow.specs.declared.sources.Source.{Source}
 use Rattle.ms_flow.specs.Table.{next_of}
 use Rattle.ms_flow.specs.Walk.{is_seen}
 use Rattle.ms_flow.proofs.Edges.{listed_few, listed_skip, listed_more}
@@ -22,3 +23,15 @@ loop-from-preserved c =
       | else-has_seen w ↦
           rw (w.lists-is, w.in_slots-is) (listed_skip R g c.loop-from.from _ _ c.loop-from.invariant (omega arith) (sym c.has_seen.ensures ∙ w.if-has_seen.false))
     ]
+
+pub own_places-requires : goal.own_places-requires
+own_places-requires c =
+    let lists = c.loop-from.lists.items in
+    let small = c.bounded.ensures.small in
+    let len = c.len-blocks.ensures.len in
+    let blocks = c.loop-from.invariant.blocks in
+    let end = c.loop-from.auto.from-end in
+    let few : (b : ℕ) → b < length lists → length (get_or lists b []) < 4294967296 = λ b lt.
+    let f = listed_few _ c.args.table.now _ _ _ c.loop-from.invariant c.bounded.ensures.few b (omega arith) in
+    omega arith in
+    record { few = subst (λ (l : List (List Source)). (b : ℕ) → b < length l → length (get_or l b []) < 4294967296) (sym c.as_slice.ensures.value) few }

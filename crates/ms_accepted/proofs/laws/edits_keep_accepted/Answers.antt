@@ -1,5 +1,0 @@
-use Rattle.ms_accepted.proofs.Kept.{edit_accepted}
-use Rattle.ms_accepted.proofs.laws.edits_keep_accepted.Goals as goal
-
-pub returns : goal.returns
-returns c = edit_accepted c.edits_keep_sound.ensures

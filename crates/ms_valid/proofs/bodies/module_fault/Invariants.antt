@@ -1,9 +1,0 @@
-use Rattle.std.proofs.Common.{◌≡◌, ◌≤◌, length, take}
-use Rattle.std.specs.List.{flat_map}
-use Rattle.ms_valid.specs.Faults.{body_there}
-use Rattle.ms_valid.specs.Told.{PlaceHas, Tells}
-use Rattle.ms_valid.proofs.ToldLemmas.{Before}
-use Rattle.ms_valid.proofs.bodies.module_fault.Given as goal
-
-abbrev pub invariant-loop-f : goal.invariant-loop-f
-invariant-loop-f l = (l.place ≤ l.f) × (l.place ≡ length (flat_map body_there (take l.f l.m.bodies))) × Tells (Before (PlaceHas l.phase l.m l.lines) l.place) l.found

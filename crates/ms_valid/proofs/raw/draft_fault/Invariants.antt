@@ -1,7 +1,0 @@
-use Rattle.ms_valid.specs.Raw.{LineHas}
-use Rattle.ms_valid.specs.Told.{Tells}
-use Rattle.ms_valid.proofs.ToldLemmas.{Before}
-use Rattle.ms_valid.proofs.raw.draft_fault.Given as goal
-
-abbrev pub invariant-loop-k : goal.invariant-loop-k
-invariant-loop-k l = Tells (Before (LineHas l.names l.draft) l.k) l.found

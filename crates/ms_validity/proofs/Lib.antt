@@ -1,0 +1,13 @@
+pub mod BodyLemmas
+pub mod BuiltLemmas
+pub mod CauseLemmas
+pub mod EdgeLemmas
+pub mod FaultLemmas
+pub mod ListLemmas
+pub mod OrderLemmas
+pub mod PathLemmas
+pub mod SiteLemmas
+pub mod SourceLemmas
+pub mod SpotLemmas
+pub mod ToldLemmas
+pub mod TypeLemmas
