@@ -181,6 +181,7 @@ behind_inst : (at : Place) (i : RawInst) (draft : Lines) → Next at (sort_of_in
 behind_inst at (inst.Alloca _ _ _) draft r = behind_alloca at draft r
 behind_inst at (inst.Phi _ _ _) draft r = behind_phi at draft r
 behind_inst at (inst.Gep _ _ _ _ _) draft r = behind_other at draft r
+behind_inst at (inst.Step _ _ _ _ _ _) draft r = behind_other at draft r
 behind_inst at (inst.Load _ _ _) draft r = behind_other at draft r
 behind_inst at (inst.Store _ _ _ _) draft r = behind_other at draft r
 behind_inst at (inst.Copy _ _ _ _ _ _) draft r = behind_other at draft r
