@@ -3,3 +3,10 @@ pub mod Graphs
 pub mod Idle
 pub mod Others
 pub mod Spared
+pub mod Passing
+pub mod Based
+pub mod Captures
+pub mod Between
+pub mod Renamed
+pub mod Stayed
+pub mod Behind

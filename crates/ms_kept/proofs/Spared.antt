@@ -56,7 +56,7 @@ unseen E n f (x ∷ xs) =
 abbrev IsPlace : FuncState → FuncState → ℕ → ℕ → ℕ → ℕ → Type 0
 IsPlace f g n b k j = others n (take k (insts_at f.blocks b)) ≡ others n (take j (insts_at g.blocks b))
 
-but_back : (f g : FuncState) (n : ℕ) → SameBut f g n → SameBut g f n
+pub but_back : (f g : FuncState) (n : ℕ) → SameBut f g n → SameBut g f n
 but_back f g n s = record { next = λ b. sym (s.next b); rest = λ b. sym (s.rest b) }
 
 seen_at : (E : ℕ → Bool) (n : ℕ) → E n ≡ false → (f : FuncState) (b k : ℕ) →
@@ -77,7 +77,7 @@ same_events E n free f g s = record {
 }
 
 -- another instruction stands in both
-stands : (f g : FuncState) (n : ℕ) → SameBut f g n → (i : ℕ) → i ≢ n → (b k : ℕ) (x : Placed) → IsAt f.blocks i b k x → (j : ℕ) × IsAt g.blocks i b j x × IsPlace f g n b k j
+pub stands : (f g : FuncState) (n : ℕ) → SameBut f g n → (i : ℕ) → i ≢ n → (b k : ℕ) (x : Placed) → IsAt f.blocks i b k x → (j : ℕ) × IsAt g.blocks i b j x × IsPlace f g n b k j
 stands f g n s i ne b k x at =
     let r = stands_in_both (λ (y : Placed). not (eqb y.number n)) (insts_at f.blocks b) (insts_at g.blocks b) (s.rest b) k x at.found
     (ap not (ne_eqb x.number n (λ e. ne (sym at.numbered ∙ e)))) in
