@@ -17,6 +17,7 @@ ghost use Rattle.ms_ir.specs.SoundFunc.{IsSoundFunc};
 ghost use Rattle.ms_alias.specs.Roots.{makes_pointer};
 ghost use Rattle.ms_alias.specs.Captured.{IsCaptured, IsCapturedBut, Differ};
 ghost use Rattle.ms_alias.specs.Meeting.{MayWrite, MayWriteInTurn};
+ghost use Rattle.ms_alias.specs.Reaches.{ReadsLoc, WritesLoc};
 ghost use Rattle.ms_alias.specs.Tables.{AliasState, IsAliasOf};
 ghost use Rattle.ms_alias.specs.declared.loc.Loc.{Loc};
 ghost use Rattle.ms_walk.specs.Clobber.{IsClobber};
@@ -24,7 +25,7 @@ ghost use Rattle.ms_cache.specs.declared.change.Change.{Change};
 ghost use Rattle.ms_cache.specs.Stays.{Kept, AreWhatStays};
 ghost use Rattle.ms_cache.specs.Edited.{MakesNone, IsLoadGone};
 ghost use Rattle.ms_kept.specs.Spared.{SameBut, IsIdle, IsSpared};
-ghost use Rattle.ms_kept.specs.Answers.{IsRight, AreRight, IsChangeOf, IsOwnChange, IsCutChange, IsToldOf, KeepsBehind, judged};
+ghost use Rattle.ms_kept.specs.Answers.{IsAskedLoc, IsRight, AreRight, IsChangeOf, IsOwnChange, IsCutChange, IsToldOf, KeepsBehind, judged};
 
 /// Where functions differ in one instruction that has no say in what the clobber of a location is, each other instruction has the same clobber of it.
 pub fn spared_clobbers_stay()
@@ -84,6 +85,12 @@ pub fn captures_told()
         → (IsTrue t ↔ Differ (IsCaptured f) (IsCapturedBut f (Some i))) → (IsTrue t ↔ Differ (IsCaptured f) (IsCaptured g)) }
     ensures moved { (f g : FuncState) (n b place : ℕ) → IsShifted f g n b place → b < length f.blocks → MakesNone f n
         → Differ (IsCaptured f) (IsCaptured g) → ⊥ }
+{}
+
+/// What an instruction reads may be asked before it, and so may the bytes that it writes.
+pub fn own_locations_may_be_asked()
+    ensures read { (f : FuncState) (i : InstNo) (loc : Loc) → ReadsLoc f i loc → IsAskedLoc f i loc }
+    ensures written { (f : FuncState) (i : InstNo) (loc : Loc) → WritesLoc f i loc → IsAskedLoc f i loc }
 {}
 
 /// No answer is wrong where none is kept, and one more that is right may be kept.
