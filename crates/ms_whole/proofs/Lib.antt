@@ -1,0 +1,9 @@
+pub mod Room
+pub mod Noted
+pub mod Mapped
+pub mod Faultless
+pub mod Own
+pub mod Asked
+pub mod Counted
+pub mod Edited
+pub mod Replaced
