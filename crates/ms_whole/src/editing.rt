@@ -94,9 +94,8 @@ pub fn insert(
     parts.func.numbered();
     ms_update::insert(&mut parts.form, &parts.func, &parts.flow, i, steps);
     let captured = parts.alias.note_put(&parts.func, i);
-    parts
-        .kept
-        .after(&parts.func, &parts.alias, &told(i, def, captured));
+    let put = told(i, def, captured);
+    parts.kept.after(&parts.func, &parts.alias, &put);
 }
 
 /// An instruction is taken.
@@ -119,9 +118,8 @@ pub fn remove(parts: &mut Parts, block: BlockNo, place: u32, steps: &mut Steps)
     parts.func.numbered();
     let (i, def) = found_at(&parts.func, block, place);
     let captured = parts.alias.note_take(&parts.func, i);
-    parts
-        .kept
-        .after(&parts.func, &parts.alias, &told(i, def, captured));
+    let taken = told(i, def, captured);
+    parts.kept.after(&parts.func, &parts.alias, &taken);
     ms_update::remove(&mut parts.form, &parts.func, &parts.flow, i, steps);
     take(&mut parts.func, i);
     parts.func.numbered();
@@ -155,9 +153,8 @@ pub fn shift(
     ms_cache::laws::shift_kept();
     parts.func.numbered();
     let (i, def) = found_at(&parts.func, block, place);
-    parts
-        .kept
-        .after(&parts.func, &parts.alias, &told(i, def, false));
+    let moved = told(i, def, false);
+    parts.kept.after(&parts.func, &parts.alias, &moved);
     ms_update::shift(
         &mut parts.form,
         &mut parts.func,

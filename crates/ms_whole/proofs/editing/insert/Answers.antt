@@ -42,11 +42,11 @@ returns-clause-whole c =
     let sound = c.edits_keep_sound.ensures f e c.numbered.ensures c.requires.whole.sound c.requires.fitting c.requires.faultless in
     let ready = put_ready f c.numbered.ensures c.args.block c.args.place c.args.inst c.args.name c.requires.faultless old.flow old.form old.alias old.kept c.requires.whole sound
     c.put_inst-i.new.self c.put_inst-i.result c.put_inst-i.ensures.put c.put_inst-i.ensures.number in
-    let told = put_told f c.put_inst-i.new.self c.args.block c.args.place c.args.inst c.args.name c.told.result c.put_inst-i.result _ _ c.put_inst-i.ensures.put
-    (says c.told.result c.put_inst-i.result _ _ c.told.ensures.inst c.told.ensures.def c.told.ensures.captured c.told.ensures.own_only c.told.ensures.unlinked)
+    let told = put_told f c.put_inst-i.new.self c.args.block c.args.place c.args.inst c.args.name c.told-put.result c.put_inst-i.result _ _ c.put_inst-i.ensures.put
+    (says c.told-put.result c.put_inst-i.result _ _ c.told-put.ensures.inst c.told-put.ensures.def c.told-put.ensures.captured c.told-put.ensures.own_only c.told-put.ensures.unlinked)
     c.put_inst-i.ensures.number c.is_def-def.ensures (c.note_put-captured.ensures.changed f c.requires.whole.alias) in
-    let keeps = c.edits_keep_right.ensures.told f e c.told.result told old.kept c.after.new.self
-    (subst (λ (g : FuncState). AreWhatStays g c.told.result old.kept c.after.new.self) c.put_inst-i.ensures.put c.after.ensures.stays) in
+    let keeps = c.edits_keep_right.ensures.told f e c.told-put.result told old.kept c.after.new.self
+    (subst (λ (g : FuncState). AreWhatStays g c.told-put.result old.kept c.after.new.self) c.put_inst-i.ensures.put c.after.ensures.stays) in
     whole_behind c.edits_keep_right.ensures.right f c.put_inst-i.new.self e old.flow old.flow old.form c.insert.new.form old.alias c.note_put-captured.new.self old.kept c.after.new.self
     c.put_inst-i.ensures.put c.requires.faultless c.numbered.ensures c.numbered-2.ensures sound c.requires.whole ready.graph c.requires.whole.formed.reducible c.insert.ensures.form
     c.insert.ensures.places c.insert.ensures.waiting c.note_put-captured.ensures.alias keeps
@@ -56,8 +56,8 @@ returns-clause-kept c =
     let f = c.args.parts.now.func in
     let e = Insert c.args.block c.args.place c.args.inst c.args.name in
     let old = c.args.parts.now in
-    let told = put_told f c.put_inst-i.new.self c.args.block c.args.place c.args.inst c.args.name c.told.result c.put_inst-i.result _ _ c.put_inst-i.ensures.put
-    (says c.told.result c.put_inst-i.result _ _ c.told.ensures.inst c.told.ensures.def c.told.ensures.captured c.told.ensures.own_only c.told.ensures.unlinked)
+    let told = put_told f c.put_inst-i.new.self c.args.block c.args.place c.args.inst c.args.name c.told-put.result c.put_inst-i.result _ _ c.put_inst-i.ensures.put
+    (says c.told-put.result c.put_inst-i.result _ _ c.told-put.ensures.inst c.told-put.ensures.def c.told-put.ensures.captured c.told-put.ensures.own_only c.told-put.ensures.unlinked)
     c.put_inst-i.ensures.number c.is_def-def.ensures (c.note_put-captured.ensures.changed f c.requires.whole.alias) in
-    c.edits_keep_right.ensures.told f e c.told.result told old.kept c.after.new.self
-    (subst (λ (g : FuncState). AreWhatStays g c.told.result old.kept c.after.new.self) c.put_inst-i.ensures.put c.after.ensures.stays)
+    c.edits_keep_right.ensures.told f e c.told-put.result told old.kept c.after.new.self
+    (subst (λ (g : FuncState). AreWhatStays g c.told-put.result old.kept c.after.new.self) c.put_inst-i.ensures.put c.after.ensures.stays)

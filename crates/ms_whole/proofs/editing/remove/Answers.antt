@@ -20,7 +20,7 @@ found_at-def-requires-clause-place c = (can_take c.args.parts.now.func c.args.bl
 
 pub after-requires : goal.after-requires
 after-requires c = λ asks. still_tables c.args.parts.now.func c.note_take-captured.new.self c.found_at-def.result.0 c.note_take-captured.ensures.pointers c.note_take-captured.ensures.captured
-    (λ o. true≢false (sym ((c.note_take-captured.ensures.changed c.args.parts.now.func c.requires.whole.alias).1 o) ∙ sym c.told.ensures.captured ∙ asks.2))
+    (λ o. true≢false (sym ((c.note_take-captured.ensures.changed c.args.parts.now.func c.requires.whole.alias).1 o) ∙ sym c.told-taken.ensures.captured ∙ asks.2))
 
 pub returns-clause-func : goal.returns-clause-func
 returns-clause-func c =
@@ -40,10 +40,10 @@ returns-clause-whole c =
     let is = taken_is f g i.0 c.args.block.0 c.args.place x inst c.numbered.ensures at taken in
     let idle = ap makes_pointer (taken_inst f g i.0 c.args.block.0 c.args.place x inst c.numbered.ensures at taken)
     ∙ c.makes_none.ensures.movable x.inst ((can_take f c.args.block c.args.place c.requires.faultless).movable x at.found) in
-    let told = take_told f g c.args.block c.args.place x c.told.result i _ _ is at
-    (says c.told.result i _ _ c.told.ensures.inst c.told.ensures.def c.told.ensures.captured c.told.ensures.own_only c.told.ensures.unlinked) c.found_at-def.ensures.2
+    let told = take_told f g c.args.block c.args.place x c.told-taken.result i _ _ is at
+    (says c.told-taken.result i _ _ c.told-taken.ensures.inst c.told-taken.ensures.def c.told-taken.ensures.captured c.told-taken.ensures.own_only c.told-taken.ensures.unlinked) c.found_at-def.ensures.2
     (c.captures_told.ensures.taken f g i inst c.numbered.ensures taken idle c.note_take-captured.result (c.note_take-captured.ensures.changed f c.requires.whole.alias)) in
-    let keeps = c.edits_keep_right.ensures.told f e c.told.result told old.kept c.after.new.self c.after.ensures.stays in
+    let keeps = c.edits_keep_right.ensures.told f e c.told-taken.result told old.kept c.after.new.self c.after.ensures.stays in
     let without = c.without_told.ensures.taken f g i.0 inst c.numbered.ensures taken in
     let graph = c.requires.whole.formed.graph ∙ sym (ap (λ (k : FuncState). edges_of k.blocks) without ∙ c.without_told.ensures.edges i.0 f.blocks) in
     whole_behind c.edits_keep_right.ensures.right f g e old.flow old.flow old.form c.remove.new.form old.alias c.note_take-captured.new.self old.kept c.after.new.self is c.requires.faultless
@@ -65,7 +65,7 @@ returns-clause-kept c =
     let is = taken_is f g i.0 c.args.block.0 c.args.place x inst c.numbered.ensures at taken in
     let idle = ap makes_pointer (taken_inst f g i.0 c.args.block.0 c.args.place x inst c.numbered.ensures at taken)
     ∙ c.makes_none.ensures.movable x.inst ((can_take f c.args.block c.args.place c.requires.faultless).movable x at.found) in
-    let told = take_told f g c.args.block c.args.place x c.told.result i _ _ is at
-    (says c.told.result i _ _ c.told.ensures.inst c.told.ensures.def c.told.ensures.captured c.told.ensures.own_only c.told.ensures.unlinked) c.found_at-def.ensures.2
+    let told = take_told f g c.args.block c.args.place x c.told-taken.result i _ _ is at
+    (says c.told-taken.result i _ _ c.told-taken.ensures.inst c.told-taken.ensures.def c.told-taken.ensures.captured c.told-taken.ensures.own_only c.told-taken.ensures.unlinked) c.found_at-def.ensures.2
     (c.captures_told.ensures.taken f g i inst c.numbered.ensures taken idle c.note_take-captured.result (c.note_take-captured.ensures.changed f c.requires.whole.alias)) in
-    c.edits_keep_right.ensures.told f (Remove c.args.block c.args.place) c.told.result told old.kept c.after.new.self c.after.ensures.stays
+    c.edits_keep_right.ensures.told f (Remove c.args.block c.args.place) c.told-taken.result told old.kept c.after.new.self c.after.ensures.stays

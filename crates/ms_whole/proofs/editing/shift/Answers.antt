@@ -34,10 +34,10 @@ returns-clause-whole c =
     let lt = (can_come f c.args.block c.args.place c.args.to_block c.args.to_place c.requires.faultless).0 in
     let none = c.makes_none.ensures.one f i.0 c.args.block.0 c.args.place x c.numbered.ensures at (c.makes_none.ensures.movable x.inst (can.movable x at.found)) in
     let is = shifted_is f g i.0 c.args.block c.args.place c.args.to_block c.args.to_place x c.numbered.ensures at c.shift.ensures.shifted in
-    let told = move_told f g c.args.block c.args.place c.args.to_block c.args.to_place x c.told.result i _ is at
-    (says c.told.result i _ _ c.told.ensures.inst c.told.ensures.def c.told.ensures.captured c.told.ensures.own_only c.told.ensures.unlinked) c.found_at-def.ensures.2
+    let told = move_told f g c.args.block c.args.place c.args.to_block c.args.to_place x c.told-moved.result i _ is at
+    (says c.told-moved.result i _ _ c.told-moved.ensures.inst c.told-moved.ensures.def c.told-moved.ensures.captured c.told-moved.ensures.own_only c.told-moved.ensures.unlinked) c.found_at-def.ensures.2
     (c.captures_told.ensures.moved f g i.0 c.args.to_block.0 c.args.to_place c.shift.ensures.shifted lt none) in
-    let keeps = c.edits_keep_right.ensures.told f e c.told.result told old.kept c.after.new.self c.after.ensures.stays in
+    let keeps = c.edits_keep_right.ensures.told f e c.told-moved.result told old.kept c.after.new.self c.after.ensures.stays in
     let graph = c.requires.whole.formed.graph ∙ sym (edges_shifted i.0 f.blocks g.blocks (c.without_told.ensures.shifted f g i.0 c.args.to_block.0 c.args.to_place c.shift.ensures.shifted)) in
     whole_behind c.edits_keep_right.ensures.right f g e old.flow old.flow old.form c.shift.new.form old.alias old.alias old.kept c.after.new.self is c.requires.faultless c.numbered.ensures c.numbered-2.ensures
     (c.edits_keep_sound.ensures f e c.numbered.ensures c.requires.whole.sound tt c.requires.faultless) c.requires.whole graph c.requires.whole.formed.reducible c.shift.ensures.form c.shift.ensures.places
@@ -55,10 +55,10 @@ returns-clause-kept c =
     let lt = (can_come f c.args.block c.args.place c.args.to_block c.args.to_place c.requires.faultless).0 in
     let none = c.makes_none.ensures.one f i.0 c.args.block.0 c.args.place x c.numbered.ensures at (c.makes_none.ensures.movable x.inst (can.movable x at.found)) in
     let is = shifted_is f g i.0 c.args.block c.args.place c.args.to_block c.args.to_place x c.numbered.ensures at c.shift.ensures.shifted in
-    let told = move_told f g c.args.block c.args.place c.args.to_block c.args.to_place x c.told.result i _ is at
-    (says c.told.result i _ _ c.told.ensures.inst c.told.ensures.def c.told.ensures.captured c.told.ensures.own_only c.told.ensures.unlinked) c.found_at-def.ensures.2
+    let told = move_told f g c.args.block c.args.place c.args.to_block c.args.to_place x c.told-moved.result i _ is at
+    (says c.told-moved.result i _ _ c.told-moved.ensures.inst c.told-moved.ensures.def c.told-moved.ensures.captured c.told-moved.ensures.own_only c.told-moved.ensures.unlinked) c.found_at-def.ensures.2
     (c.captures_told.ensures.moved f g i.0 c.args.to_block.0 c.args.to_place c.shift.ensures.shifted lt none) in
-    c.edits_keep_right.ensures.told f (Move c.args.block c.args.place c.args.to_block c.args.to_place) c.told.result told old.kept c.after.new.self c.after.ensures.stays
+    c.edits_keep_right.ensures.told f (Move c.args.block c.args.place c.args.to_block c.args.to_place) c.told-moved.result told old.kept c.after.new.self c.after.ensures.stays
 
 pub returns-clause-reads : goal.returns-clause-reads
 returns-clause-reads c =
